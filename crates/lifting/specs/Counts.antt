@@ -1,0 +1,46 @@
+-- Document 01, refusal 6: unequal counts. Assumes nothing.
+use mathlib.Core.Bool.{Bool, true, false, _&&_}
+use mathlib.Core.List.{List, [], _∷_}
+use Prim.Native.Nat.{ℕ, zero, suc}
+use lib.Dec.{leb, ltb, eqb}
+use lib.ListN.{length}
+use Rattle.lifting.specs.Lists.{every}
+use Rattle.lifting.specs.Ast.{SelectionKind, boolCond, spvInst, Node, block, select, loop, exit, ControlInst, Region, Func}
+use Rattle.lifting.specs.Parts.{regionOf, valsFor}
+
+-- `bool` without 2 cases; another select without cases
+abbrev pub casesFit : SelectionKind → ℕ → Bool
+casesFit boolCond n = eqb n 2
+casesFit (spvInst i) n = ltb 0 n
+
+-- a loop's inits, its body's inputs, its body's outputs; case outputs and outs; a case with inputs
+abbrev pub nodeFits : Func → Node → Bool
+nodeFits F (block is) = true
+nodeFits F (select k v cs ds) =
+    every (λ c. eqb (length (regionOf F c .ins)) 0 && eqb (length (regionOf F c .outs)) (length ds)) cs && casesFit k (length cs)
+nodeFits F (loop b c vs) =
+    eqb (length vs) (length (regionOf F b .ins)) && eqb (length (regionOf F b .outs)) (length (regionOf F b .ins))
+nodeFits F (exit i vs) = true
+
+-- each edge-value entry and the inputs of the region it names, target or not, where a target without an entry has zero values
+abbrev pub edgesFit : Func → ControlInst → Bool
+edgesFit F c =
+    every (λ e. eqb (length (e .1)) (length (regionOf F (e .0) .ins))) (c .vals)
+    && every (λ r. eqb (length (valsFor c r)) (length (regionOf F r .ins))) (c .to)
+
+-- region 0's outputs over 1, or any with ctrl lines
+abbrev pub bodyOuts : List (ℕ × ControlInst) → ℕ → Bool
+bodyOuts [] n = leb n 1
+bodyOuts (x ∷ l) n = eqb n 0
+
+-- region 0's inputs and the params; an imported function has no region 0
+abbrev pub bodyFits : List Region → ℕ → List (ℕ × ControlInst) → Bool
+bodyFits [] n l = true
+bodyFits (r ∷ rs) n l = eqb (length (r .ins)) n && bodyOuts l (length (r .outs))
+
+-- A text passes 6.
+unfoldable pub countsAgree : Func → Bool
+countsAgree F =
+    bodyFits (F .regions) (length (F .params)) (F .ctrls)
+    && every (nodeFits F) (F .nodes)
+    && every (λ c. edgesFit F (c .1)) (F .ctrls)
