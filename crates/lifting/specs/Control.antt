@@ -2,6 +2,7 @@
 use mathlib.Core.Bool.{Bool, true, false, not, _&&_}
 use mathlib.Core.List.{List, [], _∷_}
 use Prim.Native.Nat.{ℕ, zero, suc}
+use native.Mathlib.Decide.{ℕ-discrete}
 use lib.Dec.{leb, ltb, eqb}
 use lib.ListN.{length}
 use Rattle.lifting.specs.Lists.{every, within, distinct, keys}
@@ -38,7 +39,7 @@ reachedFit (x ∷ l) rs = every (λ r. within r (keys (x ∷ l))) rs
 
 -- A text passes 7: no ctrl twice for a region, none on a child.
 unfoldable pub controlFits : Func → Bool
-unfolding childList roots
+unfolding childList roots ℕ-discrete
 controlFits F =
     distinct (keys (F .ctrls))
     && every (isRoot F) (keys (F .ctrls))

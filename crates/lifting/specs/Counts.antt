@@ -2,6 +2,7 @@
 use mathlib.Core.Bool.{Bool, true, false, _&&_}
 use mathlib.Core.List.{List, [], _∷_}
 use Prim.Native.Nat.{ℕ, zero, suc}
+use native.Mathlib.Decide.{ℕ-discrete}
 use lib.Dec.{leb, ltb, eqb}
 use lib.ListN.{length}
 use Rattle.lifting.specs.Lists.{every}
@@ -40,6 +41,7 @@ bodyFits (r ∷ rs) n l = eqb (length (r .ins)) n && bodyOuts l (length (r .outs
 
 -- A text passes 6.
 unfoldable pub countsAgree : Func → Bool
+unfolding ℕ-discrete
 countsAgree F =
     bodyFits (F .regions) (length (F .params)) (F .ctrls)
     && every (nodeFits F) (F .nodes)

@@ -25,3 +25,4 @@ pub mod World
 pub mod RegionRun
 pub mod BlockRun
 pub mod Runs
+pub mod Starred

@@ -4,6 +4,7 @@ use mathlib.Core.Bool.{Bool, true, false}
 use mathlib.Core.List.{List, [], _∷_, reverse}
 use mathlib.Core.Option.{Option, none, some}
 use Prim.Native.Nat.{ℕ, zero, suc}
+use native.Mathlib.Decide.{ℕ-discrete}
 use lib.ListN.{length}
 use Rattle.lifting.specs.Lists.{within}
 use Rattle.lifting.specs.Ast.{ControlInst, Func}
@@ -37,4 +38,5 @@ module _ (F : Func) where
   visit (suc k) r s = visitIf (within r (s .seen)) (λ t x. visit k t x) r s
 
   unfoldable pub roots : List ℕ
+  unfolding ℕ-discrete
   roots = visit (suc (length (F .regions))) 0 (record { seen = []; order = [] }) .order

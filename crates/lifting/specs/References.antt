@@ -4,6 +4,7 @@
 use mathlib.Core.Bool.{Bool, not, _&&_}
 use mathlib.Core.List.{List, _++_, map}
 use Prim.Native.Nat.{ℕ}
+use native.Mathlib.Decide.{ℕ-discrete}
 use lib.Dec.{leb, ltb}
 use lib.ListN.{length}
 use Rattle.opcodes.specs.Table.{table}
@@ -27,7 +28,7 @@ instFits i = leb (i .opcode) maxOpcode && not (within (i .opcode) table) && ever
 
 -- A text passes 4.
 unfoldable pub referencesHold : Func → Bool
-unfolding values insts nodeList opList childList ctrlRegions requiredIds
+unfolding values insts nodeList opList childList ctrlRegions requiredIds ℕ-discrete
 referencesHold F =
     every (named F) (values F)
     && every (λ n. ltb n (length (F .nodes))) (nodeList F)

@@ -51,7 +51,7 @@ rootsHaveWaysOut (x ∷ l) cs n = true
 
 -- A text passes 5.
 unfoldable pub isTree : Func → Bool
-unfolding nodeList opList childList
+unfolding nodeList opList childList ℕ-discrete
 isTree F =
     standsOnce (length (F .nodes)) (nodeList F)
     && standsOnce (length (F .ops)) (opList F)

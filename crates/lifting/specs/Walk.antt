@@ -5,6 +5,7 @@ use mathlib.Core.List.{List, [], _∷_, _++_, map}
 use mathlib.Core.Option.{Option, none, some}
 use Prim.Native.Nat.{ℕ, zero, suc}
 use lib.ListN.{length}
+use native.Mathlib.Decide.{ℕ-discrete}
 use lib.Dec.{eqb}
 use Rattle.opcodes.specs.Table.{opcodeOf}
 use Rattle.opcodes.specs.declared.InstKind.the-variants.{ConstantTrue}
@@ -130,5 +131,5 @@ module _ (F : Func) where
 
 -- Without ctrl lines the body is walked, with them the roots. An imported function has no blocks.
 unfoldable pub walkOf : Func → Table
-unfolding roots
+unfolding roots ℕ-discrete
 walkOf F = elim (hasBody (F .regions)) [ true ↦ walkRoots F (suc (length (F .regions))) (roots F) | false ↦ [] ]
