@@ -81,6 +81,15 @@ abbrev pub fuse : CfgPoint → CfgPoint → BlockLifting → Table → Table
 fuse b t c [] = []
 fuse b t c (x ∷ T) = (x .0, refit b t c (x .0) (x .1)) ∷ fuse b t c T
 
+-- Points of count 0 are dropped.
+abbrev pub keepIf : ℕ → (CfgPoint × BlockLifting) → Table → Table
+keepIf zero x T = T
+keepIf (suc n) x T = x ∷ T
+
+abbrev pub keep : (CfgPoint → ℕ) → Table → Table
+keep c [] = []
+keep c (x ∷ T) = keepIf (c (x .0)) x (keep c T)
+
 pub record Absorbing : Type 0 where
   pub table : Table
   pub counts : CfgPoint → ℕ
@@ -109,15 +118,6 @@ absorbAll (b ∷ l) s = absorbAt b (absorbAll l s)
 unfoldable pub absorb : Table → Absorbing
 unfolding useCount eqPoint ℕ-discrete
 absorb T = absorbAll (points T) (record { table = T; counts = useCount T })
-
--- Points of count 0 are dropped.
-abbrev pub keepIf : ℕ → (CfgPoint × BlockLifting) → Table → Table
-keepIf zero x T = T
-keepIf (suc n) x T = x ∷ T
-
-abbrev pub keep : (CfgPoint → ℕ) → Table → Table
-keep c [] = []
-keep c (x ∷ T) = keepIf (c (x .0)) x (keep c T)
 
 unfoldable pub kept : Table → Table
 unfolding absorb

@@ -78,12 +78,14 @@ ifUsed (suc n) l = l
 module _ (F : Func) (first : ℕ) (T K : Table) where
   -- A phi has one pair, value and label, for each kept block with an edge to it, holding that edge's value; phi pairs follow
   -- kept-block order. This is phi j of the block at q.
+  abbrev pub pairFrom : CfgPoint × BlockLifting → CfgPoint → ℕ → List ℕ
+  pairFrom x q j =
+      ifUsed (countIn q (x .1 .term .targets)) (idOf F first T K (getD (edgeOf K (x .1 .term) q) j (const 0)) ∷ labelOf F first T K (x .0) ∷ [])
+
   unfoldable pub pairs : Table → CfgPoint → ℕ → List ℕ
   unfolding idOf labelOf
   pairs [] q j = []
-  pairs (x ∷ L) q j =
-      ifUsed (countIn q (x .1 .term .targets)) (idOf F first T K (getD (edgeOf K (x .1 .term) q) j (const 0)) ∷ labelOf F first T K (x .0) ∷ [])
-      ++ pairs L q j
+  pairs (x ∷ L) q j = pairFrom x q j ++ pairs L q j
 
   unfoldable pub phiInst : CfgPoint → Value → Decl → ℕ → Instruction
   unfolding idOf pairs

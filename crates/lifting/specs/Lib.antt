@@ -26,3 +26,4 @@ pub mod RegionRun
 pub mod BlockRun
 pub mod Runs
 pub mod Starred
+pub mod Witness
