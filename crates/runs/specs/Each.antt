@@ -1,0 +1,96 @@
+-- What holds of the block at every point holds of each block of the walk, and of each kept block if emptied and joined blocks have it too:
+-- absorption and the drop make blocks in no other way. Assumes nothing.
+use mathlib.Core.Path.{_≡_, refl}
+use mathlib.Core.List.{List, [], _∷_}
+use mathlib.Core.Option.{Option, none, some}
+use Prim.Native.Nat.{ℕ, zero, suc}
+use native.Mathlib.Decide.{ℕ-discrete}
+use native.Mathlib.Omega.{arith}
+use Rattle.lifting.specs.Lists.{choose, find}
+use Rattle.lifting.specs.Ast.{Value, Func}
+use Rattle.lifting.specs.Parts.{regionOf, nodeOf, childrenOf}
+use Rattle.lifting.specs.Points.{CfgPoint, regionEntry, regionExit, nodeEntry, nodeExit, eqPoint, BlockLifting, Table, points, nothingHere, plain, blockOr, blockAt}
+use Rattle.lifting.specs.Walk.{Place, top, inNode, nextPoint, entryBlock, exitBlock, inBlock, outBlock, walkKids, walkNode, walkNodes, walkRegion, walkRoots}
+use Rattle.lifting.specs.Absorb.{useCount, soleTarget, emptied, joined, fuse, Absorbing, ifNoPhis, tryTarget, absorbAll, absorb, keepIf, keep, kept}
+use Rattle.runs.specs.Members.{In, here, there, All, all-append, all-in}
+use Rattle.runs.specs.Tests.{find-in}
+
+-- R is what a root has, for its entry block.
+module _ (F : Func) (P : CfgPoint × BlockLifting → Type 0) {R : ℕ → Type 0} (entries : (r : ℕ) (p : Place) → (p ≡ top → R r) → P (regionEntry r, entryBlock F r p)) (exits : (r : ℕ) (p : Place) → P (regionExit r, exitBlock F r p))
+    (ins : (n : ℕ) → P (nodeEntry n, inBlock F (nodeOf F n) n)) (outs : (n : ℕ) (q : CfgPoint) → P (nodeExit n, outBlock F (nodeOf F n) n q)) where
+  -- the walk of a region at its place
+  abbrev Walks : (ℕ → Place → Table) → Type 0
+  Walks w = (r : ℕ) (p : Place) → (p ≡ top → R r) → All P (w r p)
+
+  every-kids : (w : ℕ → Place → Table) → Walks w → (n : ℕ) (cs : List ℕ) → All P (walkKids F w n cs)
+  every-kids w h n [] = tt
+  every-kids w h n (c ∷ cs) = all-append P (w c (inNode n)) (walkKids F w n cs) (h c (inNode n) (λ e. absurd (let z : _≡_ {A = ℕ} 0 1 = cc in omega arith))) (every-kids w h n cs)
+
+  every-node : (w : ℕ → Place → Table) → Walks w → (r : ℕ) (ns : List ℕ) → All P (walkNodes F w r ns)
+  every-node w h r [] = tt
+  every-node w h r (n ∷ ns) =
+      let cs = childrenOf (nodeOf F n) in
+      let q = nextPoint r ns in
+      all-append P (walkNode F w n q) (walkNodes F w r ns) (ins n, all-append P (walkKids F w n cs) _ (every-kids w h n cs) (outs n q, tt)) (every-node w h r ns)
+
+  every-region : (k : ℕ) → Walks (λ r p. walkRegion F k r p)
+  every-region zero r p t = tt
+  every-region (suc k) r p t =
+      let w : ℕ → Place → Table = λ c q. walkRegion F k c q in
+      (entries r p t, all-append P (walkNodes F w r (regionOf F r .nodes)) _ (every-node w (every-region k) r (regionOf F r .nodes)) (exits r p, tt))
+
+  pub every-point : (k : ℕ) (rs : List ℕ) → ((r : ℕ) → In r rs → R r) → All P (walkRoots F k rs)
+  every-point k [] h = tt
+  every-point k (r ∷ rs) h = all-append P (walkRegion F k r top) (walkRoots F k rs) (every-region k r top (λ e. h r here)) (every-point k rs (λ s i. h s (there i)))
+
+-- absorption and the drop
+abbrev pub Each : (BlockLifting → Type 0) → Table → Type 0
+Each P = All (λ (x : CfgPoint × BlockLifting). P (x .1))
+
+pub each-at : (P : BlockLifting → Type 0) → P (plain nothingHere) → (T : Table) → Each P T → (p : CfgPoint) → P (blockAt T p)
+each-at P bare T h p = by-case (find eqPoint p T) refl
+  where
+    by-case : (o : Option BlockLifting) → find eqPoint p T ≡ o → P (blockOr o)
+    by-case none e = bare
+    by-case (some b) e = all-in _ T h (p, b) (find-in eqPoint p T e)
+
+module _ (P : BlockLifting → Type 0) (bare : P (plain nothingHere)) (empties : (b : BlockLifting) → P b → P (emptied b)) (joins : (b c : BlockLifting) → P b → P c → P (joined b c)) where
+  each-fuse : (b t : CfgPoint) (c : BlockLifting) → P c → (T : Table) → Each P T → Each P (fuse b t c T)
+  each-fuse b t c hc [] h = tt
+  each-fuse b t c hc (x ∷ T) h = (by-case (eqPoint (x .0) t) (eqPoint (x .0) b), each-fuse b t c hc T (h .1))
+    where
+      by-case : {A B : Type 0} (d : Dec A) (g : Dec B) → P (choose d (emptied (x .1)) (choose g (joined (x .1) c) (x .1)))
+      by-case (yes e) g = empties (x .1) (h .0)
+      by-case (no n) (yes e) = joins (x .1) c (h .0) hc
+      by-case (no n) (no m) = h .0
+
+  each-try : (b : CfgPoint) (o : Option CfgPoint) (s : Absorbing) → Each P (s .table) → Each P (tryTarget b o s .table)
+  each-try b none s h = h
+  each-try b (some t) s h = by-count (ℕ-discrete (s .counts t) 1)
+    where
+      then : Absorbing
+      then = record { table = fuse b t (blockAt (s .table) t) (s .table); counts = λ q. choose (eqPoint q t) 0 (s .counts q) }
+
+      by-keys : (ks : List Value) → Each P (ifNoPhis ks then s .table)
+      by-keys [] = each-fuse b t (blockAt (s .table) t) (each-at P bare (s .table) h t) (s .table) h
+      by-keys (k ∷ ks) = h
+
+      by-count : (d : Dec (s .counts t ≡ 1)) → Each P (choose d (ifNoPhis (blockAt (s .table) t .keys) then s) s .table)
+      by-count (yes e) = by-keys (blockAt (s .table) t .keys)
+      by-count (no n) = h
+
+  each-absorb : (l : List CfgPoint) (s : Absorbing) → Each P (s .table) → Each P (absorbAll l s .table)
+  each-absorb [] s h = h
+  each-absorb (b ∷ l) s h = each-try b (soleTarget (blockAt (absorbAll l s .table) b .term)) (absorbAll l s) (each-absorb l s h)
+
+  each-keep : (c : CfgPoint → ℕ) (T : Table) → Each P T → Each P (keep c T)
+  each-keep c [] h = tt
+  each-keep c (x ∷ T) h = by-case (c (x .0)) (each-keep c T (h .1))
+    where
+      by-case : (n : ℕ) → Each P (keep c T) → Each P (keepIf n x (keep c T))
+      by-case zero ih = ih
+      by-case (suc n) ih = (h .0, ih)
+
+  pub each-kept : (T : Table) → Each P T → Each P (kept T)
+  unfolding kept
+  each-kept T h = each-keep (absorb T .counts) (absorb T .table) (each-absorb (points T) (record { table = T; counts = useCount T }) h)
