@@ -1,15 +1,13 @@
 -- An accepted text: what the three simulations need of its walk and its kept blocks follows from what the refusals leave. Assumes nothing.
 use mathlib.Core.Path.{_≡_, refl, sym, ap, _∙_, subst}
-use mathlib.Core.Logic.{_⊎_, inl, inr}
-use mathlib.Core.Bool.{Bool, true, false, cond}
-use mathlib.Core.List.{List, [], _∷_, _++_, map}
-use mathlib.Core.Option.{Option, none, some}
-use Prim.Native.Nat.{ℕ, zero, suc, _+_, _≤_, _<_}
-use native.Mathlib.Decide.{ℕ-discrete}
+use mathlib.Core.Bool.{Bool, true, false}
+use mathlib.Core.List.{List, [], _∷_}
+use mathlib.Core.Option.{Option, some}
+use Prim.Native.Nat.{ℕ, zero, suc, _<_}
 use native.Mathlib.Omega.{arith}
-use lib.ListN.{getD, length}
+use lib.ListN.{length}
 use lib.Dec.{T as Holds, eqb→eq}
-use Rattle.lifting.specs.Lists.{choose, find, gather, tabulate}
+use Rattle.lifting.specs.Lists.{find, gather, tabulate}
 use Rattle.lifting.specs.Ast.{Func, Node, Value, const, dataInstOutput, loop, nodeOutput, regionInput}
 use Rattle.lifting.specs.Parts.{constOf, hasBody, nodeOf, opOf, outsOf, regionOf, valsOr}
 use Rattle.lifting.specs.Order.{roots}
@@ -30,7 +28,9 @@ use Rattle.runs.specs.Ids.{Known}
 use Rattle.runs.specs.EmitRun.{BlockOk, KnownResult, OpOk, Sound, all-find}
 use Rattle.runs.specs.Start.{param-named, regions-listing}
 use Rattle.runs.specs.Tour.{find-unique}
-use Rattle.runs.specs.TourLaid.{every-point, walk-laid, walk-tidy}
+use Rattle.runs.specs.TourLaid.{walk-laid, walk-tidy}
+use Rattle.runs.specs.Tests.{find-in}
+use Rattle.runs.specs.Each.{every-point}
 use Rattle.runs.specs.Order.{roots-ok, roots-visited}
 use Rattle.runs.specs.Forest.{tree-of}
 use Rattle.runs.specs.Terms.{TermOk, walk-terms}
@@ -104,17 +104,6 @@ module _ (F : Func) (first : ℕ) (ok : Accepted F first) (body : hasBody (F .re
   keys-plain = subst (All (λ (x : CfgPoint × BlockLifting). All NoCon (x .1 .keys))) walk-is (every-point F (λ (x : CfgPoint × BlockLifting). All NoCon (x .1 .keys)) (λ r p t. entry-keys r p) (λ r p. tt) (λ n. in-keys n (nodeOf F n))
       (λ n q. from-out n 0 (length (outsOf (nodeOf F n)))) (suc (length (F .regions))) (roots F) (roots-ok F (ok .targets) .no-child))
 
-  find-in : (q : CfgPoint) (b : BlockLifting) (L : Table) → find eqPoint q L ≡ some b → (p : CfgPoint) × In (p, b) L
-  find-in q b [] e = absurd (let z : _≡_ {A = ℕ} 0 1 = cc in omega arith)
-  find-in q b (x ∷ L) e = by-case (eqPoint q (x .0)) e (find-in q b L)
-    where
-      by-case : (d : Dec (q ≡ x .0)) → choose d (some (x .1)) (find eqPoint q L) ≡ some b → (find eqPoint q L ≡ some b → (p : CfgPoint) × In (p, b) L) → (p : CfgPoint) × In (p, b) (x ∷ L)
-      by-case (yes p) e ih = (x .0, subst (λ (c : BlockLifting). In (x .0, c) (x ∷ L)) (some-inj e) here)
-        where
-          some-inj : some (x .1) ≡ some b → x .1 ≡ b
-          some-inj h = cc
-      by-case (no n) e ih = let r = ih e in (r .0, there (r .1))
-
   -- phis of the walk and results of kept blocks have names
   known-phi : (v : Value) → NoCon v → In v (phiKeys T) → Known F first T K v
   unfolding NoCon names
@@ -159,9 +148,8 @@ module _ (F : Func) (first : ℕ) (ok : Accepted F first) (body : hasBody (F .re
         let r = keys-of x h in
         let b = r .0 in
         let iv : In v (b .keys) = subst (In v) (r .2) i in
-        let pb = find-in (x .0) b T (r .1) in
         let nc = all-find (λ (c : BlockLifting). All NoCon (c .keys)) (x .0) b T keys-plain (r .1) in
-        known-phi v (all-in NoCon (b .keys) nc v iv) (in-gather (λ (y : CfgPoint × BlockLifting). y .1 .keys) (pb .1) iv)
+        known-phi v (all-in NoCon (b .keys) nc v iv) (in-gather (λ (y : CfgPoint × BlockLifting). y .1 .keys) (find-in eqPoint (x .0) T (r .1)) iv)
 
     known-settled : (v : Value) → Settled F K v → Known F first T K v
     known-settled v (a-const h) = h

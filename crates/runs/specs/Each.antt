@@ -1,5 +1,5 @@
--- What holds of the block at every point holds of each block of the walk, and of each kept block if emptied and joined blocks have it too:
--- absorption and the drop make blocks in no other way. Assumes nothing.
+-- What holds of every block that the walk makes, and what stays so through absorption and the drop. A kept block is one of the walk, emptied or
+-- joined with others, so what all three have each kept block has. Assumes nothing.
 use mathlib.Core.Path.{_≡_, refl}
 use mathlib.Core.List.{List, [], _∷_}
 use mathlib.Core.Option.{Option, none, some}
@@ -15,7 +15,7 @@ use Rattle.lifting.specs.Absorb.{useCount, soleTarget, emptied, joined, fuse, A
 use Rattle.runs.specs.Members.{In, here, there, All, all-append, all-in}
 use Rattle.runs.specs.Tests.{find-in}
 
--- R is what a root has, for its entry block.
+-- The walk makes four kinds of blocks. R is what is known of a root, for its entry.
 module _ (F : Func) (P : CfgPoint × BlockLifting → Type 0) {R : ℕ → Type 0} (entries : (r : ℕ) (p : Place) → (p ≡ top → R r) → P (regionEntry r, entryBlock F r p)) (exits : (r : ℕ) (p : Place) → P (regionExit r, exitBlock F r p))
     (ins : (n : ℕ) → P (nodeEntry n, inBlock F (nodeOf F n) n)) (outs : (n : ℕ) (q : CfgPoint) → P (nodeExit n, outBlock F (nodeOf F n) n q)) where
   -- the walk of a region at its place
@@ -43,7 +43,32 @@ module _ (F : Func) (P : CfgPoint × BlockLifting → Type 0) {R : ℕ → Type 
   every-point k [] h = tt
   every-point k (r ∷ rs) h = all-append P (walkRegion F k r top) (walkRoots F k rs) (every-region k r top (λ e. h r here)) (every-point k rs (λ s i. h s (there i)))
 
--- absorption and the drop
+-- What every absorption leaves as it is holds of the table after all of them.
+module _ (I : Table → Type 0) (fuses : (b t : CfgPoint) (T : Table) → I T → I (fuse b t (blockAt T t) T)) where
+  after-try : (b : CfgPoint) (o : Option CfgPoint) (s : Absorbing) → I (s .table) → I (tryTarget b o s .table)
+  after-try b none s h = h
+  after-try b (some t) s h = by-count (ℕ-discrete (s .counts t) 1)
+    where
+      then : Absorbing
+      then = record { table = fuse b t (blockAt (s .table) t) (s .table); counts = λ q. choose (eqPoint q t) 0 (s .counts q) }
+
+      by-keys : (ks : List Value) → I (ifNoPhis ks then s .table)
+      by-keys [] = fuses b t (s .table) h
+      by-keys (k ∷ ks) = h
+
+      by-count : (d : Dec (s .counts t ≡ 1)) → I (choose d (ifNoPhis (blockAt (s .table) t .keys) then s) s .table)
+      by-count (yes e) = by-keys (blockAt (s .table) t .keys)
+      by-count (no n) = h
+
+  after-all : (l : List CfgPoint) (s : Absorbing) → I (s .table) → I (absorbAll l s .table)
+  after-all [] s h = h
+  after-all (b ∷ l) s h = after-try b (soleTarget (blockAt (absorbAll l s .table) b .term)) (absorbAll l s) (after-all l s h)
+
+  pub after-absorb : (T : Table) → I T → I (absorb T .table)
+  unfolding absorb
+  after-absorb T h = after-all (points T) (record { table = T; counts = useCount T }) h
+
+-- each block
 abbrev pub Each : (BlockLifting → Type 0) → Table → Type 0
 Each P = All (λ (x : CfgPoint × BlockLifting). P (x .1))
 
@@ -64,24 +89,8 @@ module _ (P : BlockLifting → Type 0) (bare : P (plain nothingHere)) (empties :
       by-case (no n) (yes e) = joins (x .1) c (h .0) hc
       by-case (no n) (no m) = h .0
 
-  each-try : (b : CfgPoint) (o : Option CfgPoint) (s : Absorbing) → Each P (s .table) → Each P (tryTarget b o s .table)
-  each-try b none s h = h
-  each-try b (some t) s h = by-count (ℕ-discrete (s .counts t) 1)
-    where
-      then : Absorbing
-      then = record { table = fuse b t (blockAt (s .table) t) (s .table); counts = λ q. choose (eqPoint q t) 0 (s .counts q) }
-
-      by-keys : (ks : List Value) → Each P (ifNoPhis ks then s .table)
-      by-keys [] = each-fuse b t (blockAt (s .table) t) (each-at P bare (s .table) h t) (s .table) h
-      by-keys (k ∷ ks) = h
-
-      by-count : (d : Dec (s .counts t ≡ 1)) → Each P (choose d (ifNoPhis (blockAt (s .table) t .keys) then s) s .table)
-      by-count (yes e) = by-keys (blockAt (s .table) t .keys)
-      by-count (no n) = h
-
-  each-absorb : (l : List CfgPoint) (s : Absorbing) → Each P (s .table) → Each P (absorbAll l s .table)
-  each-absorb [] s h = h
-  each-absorb (b ∷ l) s h = each-try b (soleTarget (blockAt (absorbAll l s .table) b .term)) (absorbAll l s) (each-absorb l s h)
+  pub each-absorbed : (T : Table) → Each P T → Each P (absorb T .table)
+  each-absorbed = after-absorb (Each P) (λ b t T h. each-fuse b t (blockAt T t) (each-at P bare T h t) T h)
 
   each-keep : (c : CfgPoint → ℕ) (T : Table) → Each P T → Each P (keep c T)
   each-keep c [] h = tt
@@ -93,4 +102,4 @@ module _ (P : BlockLifting → Type 0) (bare : P (plain nothingHere)) (empties :
 
   pub each-kept : (T : Table) → Each P T → Each P (kept T)
   unfolding kept
-  each-kept T h = each-keep (absorb T .counts) (absorb T .table) (each-absorb (points T) (record { table = T; counts = useCount T }) h)
+  each-kept T h = each-keep (absorb T .counts) (absorb T .table) (each-absorbed T h)

@@ -1,10 +1,9 @@
 -- The kept blocks run like the emitted list.
 use mathlib.Core.Path.{_≡_, refl, sym, ap, _∙_, subst}
-use mathlib.Core.Logic.{_⊎_, inl, inr}
-use mathlib.Core.Bool.{Bool, true, false, cond, _||_}
+use mathlib.Core.Bool.{Bool, cond, _||_}
 use mathlib.Core.List.{List, [], _∷_, _++_, map}
 use mathlib.Core.Option.{Option, none, some}
-use Prim.Native.Nat.{ℕ, zero, suc, _+_, _≤_, _<_}
+use Prim.Native.Nat.{ℕ, zero, suc, _≤_, _<_}
 use native.Mathlib.Decide.{ℕ-discrete}
 use native.Mathlib.Omega.{arith}
 use lib.Dec.{eqb}
@@ -22,7 +21,8 @@ use Rattle.lifting.specs.Machine.{Alike, Out, go, halt}
 use Rattle.lifting.specs.World.{End, Executed, Mem, World, exited, pick, put, puts, reading, reads}
 use Rattle.lifting.specs.RegionRun.{atFirst, calleeOf, entry, setResult}
 use Rattle.lifting.specs.BlockRun.{BlockState, blockLog, blockStep, bodyOr, doInsts, executeInst, goTo, headId, labelsIn, operandsIn, otherWay, pairOf, pairsFor, phisOf, results, runOf, setId, tailIds, wayBy, wayOut}
-use Rattle.runs.specs.Members.{All, In, here, in-getD, in-map, in-right, map-in, tabulate-all, there}
+use Rattle.runs.specs.Members.{All, In, all-in, here, in-getD, in-map, in-right, map-in, tabulate-all, there}
+use Rattle.runs.specs.Tests.{find-in}
 use Rattle.runs.specs.Accepted.{FreeInst, FreeKind, FreeOp, Numbered, WayFit}
 use Rattle.runs.specs.Simulation.{Macro, MeetOut, alike-of, at-once, out-go, out-halt}
 use Rattle.runs.specs.PointRun.{PointState, doOps, jump, leavePoint, pointLog, pointStart, pointStep, pointWay}
@@ -36,24 +36,12 @@ getD-map-in f [] i d c h = absurd (omega arith)
 getD-map-in f (x ∷ l) zero d c h = refl
 getD-map-in f (x ∷ l) (suc i) d c h = getD-map-in f l i d c (omega arith)
 
-find-in : (K : Table) (q : CfgPoint) (d : BlockLifting) → find eqPoint q K ≡ some d → In q (points K)
-find-in [] q d e = absurd (let z : _≡_ {A = ℕ} 0 1 = cc in omega arith)
-find-in (x ∷ K) q d e = by-case (eqPoint q (x .0)) (find-in K q d) e
-  where
-    by-case : (c : Dec (q ≡ x .0)) → (find eqPoint q K ≡ some d → In q (points K)) → choose c (some (x .1)) (find eqPoint q K) ≡ some d → In q (x .0 ∷ points K)
-    by-case (yes p) ih e = subst (λ (y : CfgPoint). In q (y ∷ points K)) p here
-    by-case (no n) ih e = there (ih e)
+in-points : {x : CfgPoint × BlockLifting} {K : Table} → In x K → In (x .0) (points K)
+in-points here = here
+in-points (there h) = there (in-points h)
 
 pub all-find : (P : BlockLifting → Type 0) (q : CfgPoint) (d : BlockLifting) (K : Table) → All (λ (x : CfgPoint × BlockLifting). P (x .1)) K → find eqPoint q K ≡ some d → P d
-all-find P q d [] h e = absurd (let z : _≡_ {A = ℕ} 0 1 = cc in omega arith)
-all-find P q d (x ∷ K) h e = by-case (eqPoint q (x .0)) (all-find P q d K (h .1)) e
-  where
-    by-case : (c : Dec (q ≡ x .0)) → (find eqPoint q K ≡ some d → P d) → choose c (some (x .1)) (find eqPoint q K) ≡ some d → P d
-    by-case (yes p) ih e = subst P (some-inj e) (h .0)
-      where
-        some-inj : some (x .1) ≡ some d → x .1 ≡ d
-        some-inj h = cc
-    by-case (no n) ih e = ih e
+all-find P q d K h e = all-in _ K h (q, d) (find-in eqPoint q K e)
 
 module _ (F : Func) (first : ℕ) (T K : Table) where
   abbrev pub KnownResult : ℕ → ℕ → Type 0
@@ -83,7 +71,7 @@ module _ (F : Func) (first : ℕ) (T K : Table) where
   point-named q h = there (in-right (map value (newValues F T K)) (in-map label h))
 
   label-named : (q : CfgPoint) (d : BlockLifting) → find eqPoint q K ≡ some d → In (label q) (names F T K)
-  label-named q d e = point-named q (find-in K q d e)
+  label-named q d e = point-named q (in-points (find-in eqPoint q K e))
 
   module _ (ok : Sound) where
     block-ok : (q : CfgPoint) (d : BlockLifting) → find eqPoint q K ≡ some d → BlockOk d
@@ -169,7 +157,7 @@ module _ (F : Func) (first : ℕ) (T K : Table) where
     labels-points (x ∷ L) = ap (λ (l : List ℕ). labelOf F first T K (x .0) ∷ l) (labels-points L)
 
     is-label : (p : CfgPoint) (e : BlockLifting) → find eqPoint p K ≡ some e → In (labelOf F first T K p) (keys bs)
-    is-label p e f = subst (λ (l : List ℕ). In (labelOf F first T K p) l) (sym (labels-points K)) (in-map (labelOf F first T K) (find-in K p e f))
+    is-label p e f = subst (λ (l : List ℕ). In (labelOf F first T K p) l) (sym (labels-points K)) (in-map (labelOf F first T K) (in-points (find-in eqPoint p K f)))
 
     no-label : (v : Value) → Known F first T K v → ¬ (In (idOf F first T K v) (keys bs))
     no-label v k h =

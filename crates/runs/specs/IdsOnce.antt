@@ -1,7 +1,6 @@
 -- No name stands twice among those that get new ids, so the ids run on from the first in the names' order.
 use mathlib.Core.Path.{_≡_, refl, sym, ap, _∙_, subst}
 use mathlib.Core.Logic.{_⊎_, inl, inr}
-use mathlib.Core.Bool.{Bool, true, false, cond}
 use mathlib.Core.List.{List, [], _∷_, _++_, map, append-assoc}
 use mathlib.Core.Option.{Option, none, some}
 use Prim.Native.Nat.{ℕ, zero, suc, _+_, _≤_, _<_}
@@ -13,13 +12,13 @@ use Rattle.lifting.specs.Ast.{Func, Node, Value, block, dataInstOutput, exit, l
 use Rattle.lifting.specs.Parts.{blockOps, childrenOf, nodeOf, opOf, outsOf, regionOf}
 use Rattle.lifting.specs.Points.{BlockLifting, CfgPoint, Table, blockAt, blockOr, eqPoint, nodeEntry, nodeExit, points, regionEntry}
 use Rattle.lifting.specs.Walk.{Place, entryBlock, inBlock, inNode, outBlock, top, walkRoots}
-use Rattle.lifting.specs.Absorb.{Absorbing, absorb, absorbAll, emptied, fuse, ifNoPhis, joined, keep, keepIf, kept, refit, soleTarget, tryTarget, useCount}
+use Rattle.lifting.specs.Absorb.{absorb, emptied, fuse, joined, keep, keepIf, kept, refit}
 use Rattle.lifting.specs.Ids.{Name, eqName, label, names, newValues, numberIn, opKeys, paramKeys, phiKeys, resultOf, theFunction, value}
 use Rattle.runs.specs.Members.{All, In, NoDup, all-right, gather-in, here, in-cases, in-getD, in-nil, in-split, map-in, nodup-append, nodup-map, nodup-tabulate, nodup-times, tabulate-in, there, times-append, times-nodup}
 use Rattle.runs.specs.Accepted.{Forest, Root}
 use Rattle.runs.specs.AbsorbCount.{Unique, refit-b, refit-other, refit-t, unique-after}
 use Rattle.runs.specs.Tour.{Tree, unique-of}
-use Rattle.runs.specs.TourLaid.{every-point}
+use Rattle.runs.specs.Each.{after-absorb, every-point}
 
 -- lists of what belongs to one point each
 module _ {A : Type 0} (part : CfgPoint × BlockLifting → List A) (Own : A → CfgPoint → Type 0) (own-once : (a : A) (p q : CfgPoint) → Own a p → Own a q → p ≡ q) where
@@ -117,25 +116,6 @@ ops-after b t i T u = by-case (eqPoint b t)
 abbrev Fewer : Table → Table → Type 0
 Fewer T U = Unique U × ((i : ℕ) → times ℕ-discrete i (opsOf U) ≤ times ℕ-discrete i (opsOf T))
 
-try-fewer : (T : Table) (b : CfgPoint) (o : Option CfgPoint) (s : Absorbing) → Fewer T (s .table) → Fewer T (tryTarget b o s .table)
-try-fewer T b none s h = h
-try-fewer T b (some t) s h = by-count (ℕ-discrete (s .counts t) 1)
-  where
-    then : Absorbing
-    then = record { table = fuse b t (blockAt (s .table) t) (s .table); counts = λ q. choose (eqPoint q t) 0 (s .counts q) }
-
-    by-keys : (ks : List Value) → Fewer T (ifNoPhis ks then s .table)
-    by-keys [] = (unique-after b t (blockAt (s .table) t) (s .table) (h .0), λ i. omega (arith, ops-after b t i (s .table) (h .0), h .1 i))
-    by-keys (k ∷ ks) = h
-
-    by-count : (d : Dec (s .counts t ≡ 1)) → Fewer T (choose d (ifNoPhis (blockAt (s .table) t .keys) then s) s .table)
-    by-count (yes e) = by-keys (blockAt (s .table) t .keys)
-    by-count (no n) = h
-
-all-fewer : (T : Table) (l : List CfgPoint) (s : Absorbing) → Fewer T (s .table) → Fewer T (absorbAll l s .table)
-all-fewer T [] s h = h
-all-fewer T (b ∷ l) s h = try-fewer T b (soleTarget (blockAt (absorbAll l s .table) b .term)) (absorbAll l s) (all-fewer T l s h)
-
 keep-fewer : (c : CfgPoint → ℕ) (i : ℕ) (T : Table) → times ℕ-discrete i (opsOf (keep c T)) ≤ times ℕ-discrete i (opsOf T)
 keep-fewer c i [] = omega arith
 keep-fewer c i (x ∷ T) = by-case (c (x .0)) (keep-fewer c i T)
@@ -147,7 +127,7 @@ keep-fewer c i (x ∷ T) = by-case (c (x .0)) (keep-fewer c i T)
 pub kept-ops : (T : Table) → Unique T → NoDup (opsOf T) → NoDup (opsOf (kept T))
 unfolding kept
 kept-ops T u n = times-nodup (opsOf (kept T)) (λ i.
-    let f = all-fewer T (points T) (record { table = T; counts = useCount T }) (u, λ i. omega arith) in
+    let f = after-absorb (Fewer T) (λ b t U h. (unique-after b t (blockAt U t) U (h .0), λ i. omega (arith, ops-after b t i U (h .0), h .1 i))) T (u, λ i. omega arith) in
     omega (arith, keep-fewer (absorb T .counts) i (absorb T .table), f .1 i, nodup-times i (opsOf T) n))
 
 -- which point sets a value, and which has an op
@@ -342,25 +322,6 @@ module _ (F : Func) (depth : ℕ) (tr : Tree F depth) (root0 : Root F 0) where
       fuse-points b t c [] = refl
       fuse-points b t c (x ∷ U) = ap (λ (l : List CfgPoint). x .0 ∷ l) (fuse-points b t c U)
 
-      try-points : (b : CfgPoint) (o : Option CfgPoint) (s : Absorbing) → points (tryTarget b o s .table) ≡ points (s .table)
-      try-points b none s = refl
-      try-points b (some t) s = by-count (ℕ-discrete (s .counts t) 1)
-        where
-          then : Absorbing
-          then = record { table = fuse b t (blockAt (s .table) t) (s .table); counts = λ q. choose (eqPoint q t) 0 (s .counts q) }
-
-          by-keys : (ks : List Value) → points (ifNoPhis ks then s .table) ≡ points (s .table)
-          by-keys [] = fuse-points b t (blockAt (s .table) t) (s .table)
-          by-keys (k ∷ ks) = refl
-
-          by-count : (d : Dec (s .counts t ≡ 1)) → points (choose d (ifNoPhis (blockAt (s .table) t .keys) then s) s .table) ≡ points (s .table)
-          by-count (yes e) = by-keys (blockAt (s .table) t .keys)
-          by-count (no n) = refl
-
-      all-points : (l : List CfgPoint) (s : Absorbing) → points (absorbAll l s .table) ≡ points (s .table)
-      all-points [] s = refl
-      all-points (b ∷ l) s = try-points b (soleTarget (blockAt (absorbAll l s .table) b .term)) (absorbAll l s) ∙ all-points l s
-
       in-keep-points : (c : CfgPoint → ℕ) (U : Table) (p : CfgPoint) → In p (points (keep c U)) → In p (points U)
       in-keep-points c [] p h = h
       in-keep-points c (x ∷ U) p h = by-case (c (x .0)) h (in-keep-points c U p)
@@ -379,7 +340,7 @@ module _ (F : Func) (depth : ℕ) (tr : Tree F depth) (root0 : Root F 0) where
 
       pub kept-points : NoDup (points (kept T))
       unfolding kept
-      kept-points = keep-points (absorb T .counts) (absorb T .table) (subst NoDup (sym (all-points (points T) (record { table = T; counts = useCount T }))) nd)
+      kept-points = keep-points (absorb T .counts) (absorb T .table) (after-absorb (λ U. NoDup (points U)) (λ b t U h. rw (fuse-points b t (blockAt U t) U) h) T nd)
 
       -- a value, a label and the function are different names
       value-inj : (v w : Value) → value v ≡ value w → v ≡ w

@@ -1,19 +1,16 @@
 -- Absorption and the drop leave terminators, phis and points as the emitter needs them.
 use mathlib.Core.Path.{_≡_, refl, sym, ap, _∙_, subst}
-use mathlib.Core.Logic.{_⊎_, inl, inr}
-use mathlib.Core.List.{List, [], _∷_, _++_, map}
+use mathlib.Core.Logic.{inl, inr}
+use mathlib.Core.List.{[], _∷_}
 use mathlib.Core.Option.{Option, none, some}
-use Prim.Native.Nat.{ℕ, zero, suc, _+_, _≤_, _<_}
-use native.Mathlib.Decide.{ℕ-discrete}
+use Prim.Native.Nat.{ℕ, zero, suc, _≤_, _<_}
 use native.Mathlib.Omega.{arith}
-use lib.ListN.{getD, length}
 use Rattle.lifting.specs.Lists.{choose, find}
-use Rattle.lifting.specs.Ast.{Value}
-use Rattle.lifting.specs.Points.{BlockLifting, CfgPoint, Table, blockAt, blockOr, eqPoint, points}
-use Rattle.lifting.specs.Absorb.{Absorbing, absorb, absorbAll, countIn, emptied, fuse, ifNoPhis, joined, keep, keepIf, labels, refit, soleTarget, tryTarget, useCount, uses}
+use Rattle.lifting.specs.Points.{BlockLifting, CfgPoint, Table, blockAt, eqPoint}
+use Rattle.lifting.specs.Absorb.{absorb, countIn, fuse, keep, keepIf, labels, refit, uses}
 use Rattle.runs.specs.Members.{All, In, here, in-cases, in-nil, there}
 use Rattle.runs.specs.AbsorbCount.{find-fuse, onSome, refit-keys}
-use Rattle.runs.specs.EmitRun.{all-find}
+use Rattle.runs.specs.Each.{after-absorb, each-absorbed}
 use Rattle.runs.specs.Terms.{TermOk, nothing-ok}
 
 -- two findings at one point: both there or not, with the same phis
@@ -50,55 +47,22 @@ pub record Shape (T U : Table) : Type 0 where
   pub same : (q : CfgPoint) → SameKeys (find eqPoint q U) (find eqPoint q T)
 
 module _ (T : Table) where
-  refit-ok : (b t : CfgPoint) (c : BlockLifting) (p : CfgPoint) (d : BlockLifting) → TermOk T (c .term) → TermOk T (d .term) → TermOk T (refit b t c p d .term)
-  refit-ok b t c p d hc hd = by-case (eqPoint p t) (eqPoint p b)
-    where
-      by-case : {P Q : Type 0} (x : Dec P) (y : Dec Q) → TermOk T (choose x (emptied d) (choose y (joined d c) d) .term)
-      by-case (yes e) y = nothing-ok T
-      by-case (no n) (yes e) = hc
-      by-case (no n) (no m) = hd
-
-  fuse-terms : (b t : CfgPoint) (c : BlockLifting) → TermOk T (c .term) → (U : Table) → All (λ (x : CfgPoint × BlockLifting). TermOk T (x .1 .term)) U → All (λ (x : CfgPoint × BlockLifting). TermOk T (x .1 .term)) (fuse b t c U)
-  fuse-terms b t c hc [] h = tt
-  fuse-terms b t c hc (x ∷ U) h = (refit-ok b t c (x .0) (x .1) hc (h .0), fuse-terms b t c hc U (h .1))
-
-  block-term : (U : Table) → All (λ (x : CfgPoint × BlockLifting). TermOk T (x .1 .term)) U → (q : CfgPoint) (o : Option BlockLifting) → find eqPoint q U ≡ o → TermOk T (blockOr o .term)
-  block-term U h q none e = nothing-ok T
-  block-term U h q (some d) e = all-find (λ (b : BlockLifting). TermOk T (b .term)) q d U h e
-
   refit-same : (b t : CfgPoint) (c : BlockLifting) (q : CfgPoint) (o : Option BlockLifting) → SameKeys (onSome (refit b t c q) o) o
   refit-same b t c q none = tt
   refit-same b t c q (some d) = refit-keys b t c q d
 
-  fuse-shape : (b t : CfgPoint) (U : Table) → Shape T U → Shape T (fuse b t (blockAt U t) U)
-  fuse-shape b t U s = record {
-    terms = fuse-terms b t (blockAt U t) (block-term U (s .terms) t (find eqPoint t U) refl) U (s .terms);
-    same = λ q. keys-trans (find eqPoint q (fuse b t (blockAt U t) U)) (find eqPoint q U) (find eqPoint q T)
-        (subst (λ (o : Option BlockLifting). SameKeys o (find eqPoint q U)) (sym (find-fuse b t (blockAt U t) U q)) (refit-same b t (blockAt U t) q (find eqPoint q U))) (s .same q);
-  }
+  abbrev Same : Table → Type 0
+  Same U = (q : CfgPoint) → SameKeys (find eqPoint q U) (find eqPoint q T)
 
-  try-shape : (b : CfgPoint) (o : Option CfgPoint) (s : Absorbing) → Shape T (s .table) → Shape T (tryTarget b o s .table)
-  try-shape b none s h = h
-  try-shape b (some t) s h = by-count (ℕ-discrete (s .counts t) 1)
-    where
-      then : Absorbing
-      then = record { table = fuse b t (blockAt (s .table) t) (s .table); counts = λ q. choose (eqPoint q t) 0 (s .counts q) }
-
-      by-keys : (ks : List Value) → Shape T (ifNoPhis ks then s .table)
-      by-keys [] = fuse-shape b t (s .table) h
-      by-keys (k ∷ ks) = h
-
-      by-count : (d : Dec (s .counts t ≡ 1)) → Shape T (choose d (ifNoPhis (blockAt (s .table) t .keys) then s) s .table)
-      by-count (yes e) = by-keys (blockAt (s .table) t .keys)
-      by-count (no n) = h
-
-  all-shape : (l : List CfgPoint) (s : Absorbing) → Shape T (s .table) → Shape T (absorbAll l s .table)
-  all-shape [] s h = h
-  all-shape (b ∷ l) s h = try-shape b (soleTarget (blockAt (absorbAll l s .table) b .term)) (absorbAll l s) (all-shape l s h)
+  fuse-same : (b t : CfgPoint) (U : Table) → Same U → Same (fuse b t (blockAt U t) U)
+  fuse-same b t U s q = keys-trans (find eqPoint q (fuse b t (blockAt U t) U)) (find eqPoint q U) (find eqPoint q T)
+      (subst (λ (o : Option BlockLifting). SameKeys o (find eqPoint q U)) (sym (find-fuse b t (blockAt U t) U q)) (refit-same b t (blockAt U t) q (find eqPoint q U))) (s q)
 
   pub absorb-shape : All (λ (x : CfgPoint × BlockLifting). TermOk T (x .1 .term)) T → Shape T (absorb T .table)
-  unfolding absorb
-  absorb-shape h = all-shape (points T) (record { table = T; counts = useCount T }) (record { terms = h; same = λ q. keys-refl (find eqPoint q T) })
+  absorb-shape h = record {
+    terms = each-absorbed (λ (b : BlockLifting). TermOk T (b .term)) (nothing-ok T) (λ b k. nothing-ok T) (λ b c k l. l) T h;
+    same = after-absorb Same fuse-same T (λ q. keys-refl (find eqPoint q T));
+  }
 
 -- what is kept
 pub in-keep : (c : CfgPoint → ℕ) (T : Table) (x : CfgPoint × BlockLifting) → In x (keep c T) → In x T × (0 < c (x .0))

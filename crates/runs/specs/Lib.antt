@@ -22,3 +22,11 @@ pub mod AcceptedRuns
 pub mod IdsOnce
 pub mod Numbering
 pub mod Pairs
+pub mod Tests
+pub mod Each
+pub mod Refers
+pub mod Fits
+pub mod Used
+pub mod Passes
+pub mod Demand3
+pub mod WitnessRuns

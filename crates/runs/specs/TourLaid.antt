@@ -1,23 +1,23 @@
 -- The walk holds the right block at each point that a run can come to.
 use mathlib.Core.Path.{_≡_, refl, sym, ap, _∙_, subst}
-use mathlib.Core.Logic.{_⊎_, inl, inr}
-use mathlib.Core.List.{List, [], _∷_, _++_, map}
+use mathlib.Core.List.{List, [], _∷_}
 use mathlib.Core.Option.{Option, none, some}
-use Prim.Native.Nat.{ℕ, zero, suc, _+_, _≤_, _<_}
+use Prim.Native.Nat.{ℕ, zero, suc, _<_}
 use native.Mathlib.Omega.{arith}
-use lib.ListN.{getD, length}
+use lib.ListN.{length}
 use Rattle.lifting.specs.Lists.{choose-yes, find, tabulate}
 use Rattle.lifting.specs.Ast.{ControlInst, Func, Node, Value, block, exit, loop, select}
 use Rattle.lifting.specs.Parts.{childrenOf, ctrlOf, nodeOf, regionOf}
 use Rattle.lifting.specs.Points.{BlockLifting, CfgPoint, Table, blockAt, blockOr, eqPoint, nodeEntry, nodeExit, regionEntry, regionExit}
 use Rattle.lifting.specs.Walk.{Place, entryBlock, exitBlock, inBlock, inNode, nextPoint, outBlock, top, walkKids, walkNode, walkNodes, walkRegion, walkRoots}
 use Rattle.lifting.specs.Absorb.{firstUse}
-use Rattle.runs.specs.Members.{All, In, NoDup, all-append, here, in-left, in-right, there}
+use Rattle.runs.specs.Members.{All, In, NoDup, here, in-left, in-right, there}
 use Rattle.runs.specs.Accepted.{Root}
 use Rattle.runs.specs.Places.{Laid, Suffix, Visited, at-body, by-ctrl, in-case, in-loop, next, whole}
 use Rattle.runs.specs.AbsorbCount.{Unique}
 use Rattle.runs.specs.AbsorbAll.{Tidy}
 use Rattle.runs.specs.EmitRun.{all-find}
+use Rattle.runs.specs.Each.{every-point}
 use Rattle.runs.specs.Tour.{Tree, find-unique, unique-of}
 use Rattle.runs.specs.TourOnce.{roots-nodup}
 
@@ -45,33 +45,6 @@ module _ (F : Func) where
 
     in-node : {x : CfgPoint × BlockLifting} (r n : ℕ) (ns : List ℕ) → Suffix (regionOf F r .nodes) (n ∷ ns) → In x (walkNode F w n (nextPoint r ns)) → In x (walkNodes F w r (regionOf F r .nodes))
     in-node r n ns sf h = in-walk-suffix r sf (in-left (walkNodes F w r ns) h)
-
-  -- what holds of every block that the walk makes
-  module _ (P : CfgPoint × BlockLifting → Type 0) (p-entry : (r : ℕ) (p : Place) → (p ≡ top → Root F r) → P (regionEntry r, entryBlock F r p)) (p-exit : (r : ℕ) (p : Place) → P (regionExit r, exitBlock F r p))
-      (p-in : (n : ℕ) → P (nodeEntry n, inBlock F (nodeOf F n) n)) (p-out : (n : ℕ) (q : CfgPoint) → P (nodeExit n, outBlock F (nodeOf F n) n q)) where
-    in-top : {n : ℕ} {A : Type 0} → inNode n ≡ top → A
-    in-top {n} {A} e = absurd (let z : _≡_ {A = ℕ} 0 1 = cc in omega arith)
-
-    every-kids : (w : ℕ → Place → Table) → ((c : ℕ) (q : Place) → (q ≡ top → Root F c) → All P (w c q)) → (n : ℕ) (cs : List ℕ) → All P (walkKids F w n cs)
-    every-kids w ih n [] = tt
-    every-kids w ih n (c ∷ cs) = all-append P (w c (inNode n)) _ (ih c (inNode n) (λ e. in-top e)) (every-kids w ih n cs)
-
-    every-node : (w : ℕ → Place → Table) → ((c : ℕ) (q : Place) → (q ≡ top → Root F c) → All P (w c q)) → (r : ℕ) (ns : List ℕ) → All P (walkNodes F w r ns)
-    every-node w ih r [] = tt
-    every-node w ih r (n ∷ ns) = all-append P (walkNode F w n (nextPoint r ns)) _
-        (p-in n, all-append P (walkKids F w n (childrenOf (nodeOf F n))) _ (every-kids w ih n (childrenOf (nodeOf F n))) (p-out n (nextPoint r ns), tt)) (every-node w ih r ns)
-
-    every-region : (k r : ℕ) (q : Place) → (q ≡ top → Root F r) → All P (walkRegion F k r q)
-    every-region zero r q t = tt
-    every-region (suc k) r q t = (
-      p-entry r q t,
-      all-append P (walkNodes F (λ c x. walkRegion F k c x) r (regionOf F r .nodes)) _
-          (every-node (λ c x. walkRegion F k c x) (λ c x. every-region k c x) r (regionOf F r .nodes)) (p-exit r q, tt),
-    )
-
-    pub every-point : (k : ℕ) (l : List ℕ) → ((r : ℕ) → In r l → Root F r) → All P (walkRoots F k l)
-    every-point k [] h = tt
-    every-point k (r ∷ l) h = all-append P (walkRegion F k r top) _ (every-region k r top (λ e. h r here)) (every-point k l (λ s i. h s (there i)))
 
   module _ (depth : ℕ) (tr : Tree F depth) (rs : List ℕ) (ok : Roots F rs) where
     abbrev T : Table
@@ -165,7 +138,7 @@ module _ (F : Func) where
       in-plain n (exit i vs) e h = refl
 
       plain-roots : All Plain T
-      plain-roots = every-point Plain (λ r p t h. refl) (λ r p h. refl) (λ n. in-plain n (nodeOf F n) refl) (λ n q h. refl) depth rs (ok .no-child)
+      plain-roots = every-point F Plain (λ r p t h. refl) (λ r p h. refl) (λ n. in-plain n (nodeOf F n) refl) (λ n q h. refl) depth rs (ok .no-child)
 
       first-one : (k : ℕ) → 0 < k → firstUse (walkRoots F k (0 ∷ ok .others)) (regionEntry 0) ≡ 1
       first-one zero h = absurd (omega arith)

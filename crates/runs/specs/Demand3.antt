@@ -1,0 +1,57 @@
+-- Demand 3, whole, about the words that are written: for every accepted text with a body and every world, running the regions and running the
+-- blocks of the list reach the same lists of executed instructions, and one ends exactly if the other does, alike. And demand 2's claims
+-- about every accepted text: new ids run on without repeats, and each phi has one pair for each kept block with an edge to its block.
+-- No hypothesis beyond the answer: what the runs need follows from the refusals' own tests (`accepted-of`). Assumes nothing.
+use mathlib.Core.Path.{_≡_, refl, sym, ap, _∙_, subst}
+use mathlib.Core.Bool.{true}
+use mathlib.Core.List.{List}
+use mathlib.Core.Option.{Option, some, Option·some-injective}
+use Prim.Native.Nat.{ℕ, _+_, _<_}
+use lib.ListN.{length, getD}
+use Rattle.lifting.specs.Ast.{Func}
+use Rattle.lifting.specs.Grammar.{read}
+use Rattle.lifting.specs.Parts.{hasBody}
+use Rattle.lifting.specs.Points.{CfgPoint, Table}
+use Rattle.lifting.specs.Walk.{walkOf}
+use Rattle.lifting.specs.Absorb.{kept}
+use Rattle.lifting.specs.Ids.{names, newId, theFunction}
+use Rattle.lifting.specs.Instructions.{Instruction, listOf, pairs}
+use Rattle.lifting.specs.Words.{list-from, listFrom}
+use Rattle.lifting.specs.Answer.{answer, listed}
+use Rattle.lifting.specs.World.{World}
+use Rattle.lifting.specs.Runs.{AlikeRuns, TrueConstants}
+use Rattle.lifting.specs.Witness.{text}
+use Rattle.runs.specs.Members.{NoDup}
+use Rattle.runs.specs.Accepted.{Accepted}
+use Rattle.runs.specs.Places.{next}
+use Rattle.runs.specs.AcceptedRuns.{accepted-alike, sound}
+use Rattle.runs.specs.Numbering.{ids-in-order, ids-up-to, no-name-twice, no-point-twice}
+use Rattle.runs.specs.Pairs.{OnePairEach, one-pair-each}
+use Rattle.runs.specs.Passes.{Passed, accepted-of, answer-passes}
+
+module _ (text : List ℕ) (first func work out : ℕ) (ws : List ℕ) (next : ℕ) (ok : answer text first func work out ≡ listed ws next)
+    (F : Func) (is : read text ≡ some F) (body : hasBody (F .regions) ≡ true) where
+  passed : Passed text first out F ws next
+  passed = let w = answer-passes text first func work out ws next ok in
+      subst (λ (G : Func). Passed text first out G ws next) (Option·some-injective (w .0) F (sym (w .1 .text-is) ∙ is)) (w .1)
+
+  pub accepted : Accepted F first
+  accepted = accepted-of F first body (passed .references) (passed .tree) (passed .counts) (passed .control) (passed .ids) (passed .values)
+
+  pub demand-3 : {Val : Type 0} (W : World Val) → TrueConstants F W → AlikeRuns F (listFrom ws) W
+  demand-3 W true41 =
+      subst (λ (l : List Instruction). AlikeRuns F l W) (sym (ap listFrom (passed .words-are) ∙ list-from (listOf F first))) (accepted-alike F first accepted body W true41)
+
+  abbrev T : Table
+  T = walkOf F
+
+  abbrev K : Table
+  K = kept (walkOf F)
+
+  -- new ids run from the first id to the next free id less one, in the order of the names, and no name stands twice
+  pub new-ids : NoDup (names F T K) × ((k : ℕ) → k < length (names F T K) → newId F first T K (getD (names F T K) k theFunction) ≡ first + k) × (first + length (names F T K) ≡ next)
+  new-ids = (no-name-twice F first accepted body, ids-in-order F first accepted body, ids-up-to F first accepted body ∙ sym (passed .next-is))
+
+  -- phi j of the kept block at q
+  pub phi-pairs : {Val : Type 0} (W : World Val) (q : CfgPoint) (j : ℕ) → OnePairEach F first T K q j (pairs F first T K K q j)
+  phi-pairs W q j = one-pair-each F first T K (sound F first accepted body W) (no-point-twice F first accepted body) q j
