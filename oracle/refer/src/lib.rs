@@ -1,0 +1,53 @@
+//! A plain reference of document 01, written from that paper: what `lift` prints for any input.
+//!
+//! It shares no code with the oracle. Terminators are what 'Running the regions and the blocks'
+//! needs them to be, and the comparison with the oracle tells whether the Rust's are the same.
+
+pub mod list;
+pub mod read;
+pub mod refuse;
+
+use list::Line;
+use read::{Cursor, Func};
+
+/// The words that `lift` lends for each slice, and the highest id that may be given.
+const SLICE_WORDS: usize = 16_384;
+const HIGHEST_ID: u64 = 4_194_303;
+
+pub enum Answer {
+    List { lines: Vec<Line>, words: usize, next: u64 },
+    Refused(u32),
+}
+
+/// Answers an input of the program `lift`: a first line and a text.
+pub fn answer(input: &[u8]) -> Answer {
+    let mut cursor = Cursor(input);
+    let Some(first) = cursor.first() else { return Answer::Refused(2) };
+    if cursor.0.len() > 32_768 {
+        return Answer::Refused(1);
+    }
+    let Some(func) = cursor.func() else { return Answer::Refused(2) };
+    match func.refusal() {
+        Some(number) => Answer::Refused(number),
+        None => lift(&func, first),
+    }
+}
+
+/// Refusals 9 to 11 and the list, for a function that 3 to 7 let pass.
+fn lift(func: &Func, first: u32) -> Answer {
+    if first == 0 || first <= func.highest_id() {
+        return Answer::Refused(9);
+    }
+    let (lines, next) = list::list(func, first);
+    if next - 1 > HIGHEST_ID {
+        return Answer::Refused(9);
+    }
+    if lines.iter().any(|line| line.ids.contains(&0)) {
+        return Answer::Refused(10);
+    }
+    let words = lines.iter().map(|line| 6 + 3 * line.imms.len() + line.ids.len()).sum();
+    if words > SLICE_WORDS {
+        return Answer::Refused(11);
+    }
+    Answer::List { lines, words, next }
+}
