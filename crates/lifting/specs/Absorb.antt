@@ -1,6 +1,5 @@
 -- Document 01, 'Blocks and their order': use counts, absorption over points in reverse order, and the drop of points of count 0, as in
 -- `from_func_decl`. Assumes nothing.
-use mathlib.Core.Path.{_≡_}
 use mathlib.Core.List.{List, [], _∷_, _++_}
 use mathlib.Core.Option.{Option, none, some}
 use Prim.Native.Nat.{ℕ, zero, suc, _+_}

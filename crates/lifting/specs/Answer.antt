@@ -1,9 +1,9 @@
 -- Document 01, 'When there is no list' and 'The instruction list': the answer to every text, first id and set of lent slices, and what the
 -- slices hold at the end. Each refusal is judged over the whole text before the next: 8, 1 to 7, 9, 10, 11. Assumes nothing.
 use mathlib.Core.Bool.{Bool, true, false, _&&_, _||_}
-use mathlib.Core.List.{List, [], _∷_, _++_}
+use mathlib.Core.List.{List, _++_}
 use mathlib.Core.Option.{Option, none, some}
-use Prim.Native.Nat.{ℕ, zero, suc, _+_}
+use Prim.Native.Nat.{ℕ, suc}
 use native.Mathlib.Decide.{ℕ-discrete}
 use lib.Dec.{leb, ltb, eqb}
 use lib.ListN.{length, drop, replicate}
@@ -20,7 +20,7 @@ use Rattle.lifting.specs.Points.{BlockLifting, Table, edgeOf}
 use Rattle.lifting.specs.Walk.{walkOf}
 use Rattle.lifting.specs.Absorb.{kept}
 use Rattle.lifting.specs.Ids.{newValues, nextId}
-use Rattle.lifting.specs.Instructions.{Instruction, listOf}
+use Rattle.lifting.specs.Instructions.{listOf}
 use Rattle.lifting.specs.Words.{words}
 
 -- 8 and 1 to 7: the parsed function, or the number of the first refusal

@@ -8,7 +8,7 @@ use native.Mathlib.Decide.{ℕ-discrete}
 use lib.Dec.{eqb}
 use lib.ListN.{getD, length}
 use Rattle.opcodes.specs.declared.InstKind.{InstKind}
-use Rattle.opcodes.specs.declared.InstKind.the-variants.{ExtInst, Function, FunctionParameter, FunctionEnd, FunctionCall, Phi, LoopMerge, SelectionMerge, Label, Branch, BranchConditional, Return, ReturnValue, Unreachable}
+use Rattle.opcodes.specs.declared.InstKind.the-variants.{ExtInst, FunctionParameter, FunctionEnd, FunctionCall, Phi, LoopMerge, SelectionMerge, Label, Branch, BranchConditional, Return, ReturnValue, Unreachable}
 use Rattle.opcodes.specs.Table.{opcodeOf}
 use Rattle.lifting.specs.Lists.{choose, find, keys, within, tabulate}
 use Rattle.lifting.specs.Machine.{Out, go, halt}

@@ -1,12 +1,12 @@
 -- Document 01, refusal 7: ctrl lines. Assumes nothing.
-use mathlib.Core.Bool.{Bool, true, false, not, _&&_}
+use mathlib.Core.Bool.{Bool, true, not, _&&_}
 use mathlib.Core.List.{List, [], _∷_}
-use Prim.Native.Nat.{ℕ, zero, suc}
+use Prim.Native.Nat.{ℕ}
 use native.Mathlib.Decide.{ℕ-discrete}
 use lib.Dec.{leb, ltb, eqb}
 use lib.ListN.{length}
 use Rattle.lifting.specs.Lists.{every, within, distinct, keys}
-use Rattle.lifting.specs.Ast.{SelectionKind, boolCond, spvInst, ControlInstKind, unreachable, return, branch, selectBranch, exitInvocation, ControlInst, Func}
+use Rattle.lifting.specs.Ast.{boolCond, spvInst, ControlInstKind, unreachable, return, branch, selectBranch, exitInvocation, ControlInst, Func}
 use Rattle.lifting.specs.Parts.{childList}
 use Rattle.lifting.specs.Order.{roots}
 

@@ -2,11 +2,10 @@
 -- Assumes nothing.
 use mathlib.Core.List.{List, [], _∷_, _++_, map}
 use Prim.Native.Nat.{ℕ, zero, suc}
-use lib.ListN.{getD, length}
+use lib.ListN.{getD}
 use Rattle.opcodes.specs.Table.{opcodeOf}
 use Rattle.opcodes.specs.declared.InstKind.the-variants.{ExtInst, Function, FunctionParameter, FunctionEnd, FunctionCall, Phi, LoopMerge, SelectionMerge, Label, Branch, BranchConditional, Return, ReturnValue, Unreachable}
-use Rattle.lifting.specs.Lists.{gather, tabulate}
-use Rattle.lifting.specs.Ast.{Value, const, regionInput, dataInstOutput, Imm, Inst, DataInstKind, inst, call, ext, SelectionKind, boolCond, spvInst, Decl, ControlInstKind, unreachable, return, branch, selectBranch, exitInvocation, Func}
+use Rattle.lifting.specs.Ast.{Value, const, regionInput, dataInstOutput, Imm, DataInstKind, inst, call, ext, boolCond, spvInst, Decl, ControlInstKind, unreachable, return, branch, selectBranch, exitInvocation, Func}
 use Rattle.lifting.specs.Parts.{opOf, calleeIds}
 use Rattle.lifting.specs.Points.{CfgPoint, Merge, noMerge, selectionMerge, loopMerge, Terminator, BlockLifting, Table, edgeOf}
 use Rattle.lifting.specs.Absorb.{countIn, kept}

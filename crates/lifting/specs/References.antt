@@ -2,8 +2,7 @@
 -- no meaning; a const id repeats; an opcode or operand kind is over 65,535, an operand kind 0, or an immediate kind over 2; an INST's
 -- opcode is one of the opcode table's. Assumes nothing.
 use mathlib.Core.Bool.{Bool, not, _&&_}
-use mathlib.Core.List.{List, _++_, map}
-use Prim.Native.Nat.{ℕ}
+use mathlib.Core.List.{_++_, map}
 use native.Mathlib.Decide.{ℕ-discrete}
 use lib.Dec.{leb, ltb}
 use lib.ListN.{length}

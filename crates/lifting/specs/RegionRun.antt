@@ -1,14 +1,13 @@
 -- Document 01, 'Running the regions and the blocks': the run of a text's regions, as a stack of what is still to do. It knows nothing of
 -- points or blocks. Assumes nothing.
-use mathlib.Core.Bool.{Bool, true, false, cond}
+use mathlib.Core.Bool.{cond}
 use mathlib.Core.List.{List, [], _∷_, _++_, map}
 use mathlib.Core.Option.{Option, none, some}
 use Prim.Native.Nat.{ℕ, zero, suc}
-use native.Mathlib.Decide.{ℕ-discrete}
 use lib.ListN.{getD, length}
-use Rattle.lifting.specs.Lists.{find, tabulate}
+use Rattle.lifting.specs.Lists.{tabulate}
 use Rattle.lifting.specs.Machine.{Out, go, halt}
-use Rattle.lifting.specs.Ast.{Value, const, regionInput, dataInstOutput, eqValue, Inst, DataInstKind, inst, call, ext, Op, SelectionKind, Decl, ControlInstKind, unreachable, return, branch, selectBranch, exitInvocation, Node, block, select, loop, exit, Region, ControlInst, Func}
+use Rattle.lifting.specs.Ast.{Value, const, regionInput, dataInstOutput, eqValue, DataInstKind, inst, call, ext, Op, ControlInstKind, unreachable, return, branch, selectBranch, exitInvocation, Node, block, select, loop, exit, ControlInst, Func}
 use Rattle.lifting.specs.Parts.{regionOf, nodeOf, opOf, ctrlOf, insKeys, outKeys, valsFor}
 use Rattle.lifting.specs.Instructions.{opOpcode, opImms}
 use Rattle.lifting.specs.World.{World, Executed, End, returned, exited, dead, Mem, put, puts, reads, reading, truths, pick}

@@ -7,7 +7,6 @@ use Prim.Native.Nat.{ℕ, zero, suc}
 use Prim.Native.String.{String}
 use lib.Dec.{eqb}
 use lib.ListN.{length}
-use Rattle.opcodes.specs.Table.{opcodeOf}
 use Rattle.opcodes.specs.declared.InstKind.the-variants.{Phi}
 use Rattle.lifting.specs.Bytes.{bytes}
 use Rattle.lifting.specs.Lists.{every}
@@ -15,7 +14,7 @@ use Rattle.lifting.specs.Limits.{scratchWords}
 use Rattle.lifting.specs.Instructions.{Instruction}
 use Rattle.lifting.specs.Words.{listFrom}
 use Rattle.lifting.specs.Answer.{Answer, listed, refused, answer}
-use Rattle.lifting.specs.BlockRun.{Parts, parts, isKind}
+use Rattle.lifting.specs.BlockRun.{parts, isKind}
 
 -- what a row claims: the words and the next free id; the number of blocks; the numbers of pairs of all phis; a refusal
 pub data Claim : Type 0 where

@@ -1,7 +1,7 @@
 -- Document 01, refusal 5: a node doesn't stand exactly once in all regions' lists, or an op exactly once in all blocks' lists; a region is
 -- child of two places or of itself through others, or of itself directly; region 0 is a child; without ctrl lines, another region is no
 -- child. Assumes nothing.
-use mathlib.Core.Bool.{Bool, true, false, not, cond, _&&_, _||_}
+use mathlib.Core.Bool.{Bool, true, false, not, cond, _&&_}
 use mathlib.Core.List.{List, [], _∷_}
 use mathlib.Core.Option.{Option, none, some}
 use Prim.Native.Nat.{ℕ, zero, suc}

@@ -9,7 +9,7 @@ use native.Mathlib.Decide.{ℕ-discrete}
 use lib.Dec.{eqb}
 use Rattle.opcodes.specs.Table.{opcodeOf}
 use Rattle.opcodes.specs.declared.InstKind.the-variants.{ConstantTrue}
-use Rattle.lifting.specs.Ast.{Value, const, regionInput, nodeOutput, dataInstOutput, SelectionKind, boolCond, Decl, Node, block, select, loop, exit, Region, ControlInstKind, return, branch, selectBranch, exitInvocation, ControlInst, Func}
+use Rattle.lifting.specs.Ast.{Value, const, regionInput, nodeOutput, dataInstOutput, boolCond, Decl, Node, block, select, loop, exit, return, branch, selectBranch, exitInvocation, ControlInst, Func}
 use Rattle.lifting.specs.Parts.{constOf, regionOf, nodeOf, ctrlOf, hasBody, childrenOf, outsOf, insKeys, outKeys}
 use Rattle.lifting.specs.Points.{CfgPoint, regionEntry, regionExit, nodeEntry, nodeExit, noMerge, selectionMerge, loopMerge, Terminator, BlockLifting, Table, straight, nothingHere, plain}
 use Rattle.lifting.specs.Order.{roots}

@@ -12,7 +12,7 @@ use Rattle.lifting.specs.Ast.{eqValue, Func}
 use Rattle.lifting.specs.Grammar.{read}
 use Rattle.lifting.specs.Limits.{scratchWords}
 use Rattle.lifting.specs.Words.{listFrom}
-use Rattle.lifting.specs.Answer.{Answer, listed, refused, answer}
+use Rattle.lifting.specs.Answer.{listed, answer}
 use Rattle.lifting.specs.Machine.{Out, halt, after}
 use Rattle.lifting.specs.World.{World, Executed, End, returned}
 use Rattle.lifting.specs.RegionRun.{regionStep, regionLog, regionStart}

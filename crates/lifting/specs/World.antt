@@ -1,12 +1,12 @@
 -- Document 01, 'Running the regions and the blocks': what both runs share. A run has the arguments, each constant's value, an endless list
 -- of results and the rule. Assumes nothing.
 use mathlib.Core.Path.{_≡_}
-use mathlib.Core.Bool.{Bool, true, false, cond}
+use mathlib.Core.Bool.{Bool, false, cond}
 use mathlib.Core.List.{List, [], _∷_}
 use mathlib.Core.Option.{Option, none, some}
-use Prim.Native.Nat.{ℕ, zero, suc, _<_}
+use Prim.Native.Nat.{ℕ, _<_}
 use Rattle.lifting.specs.Lists.{choose}
-use Rattle.lifting.specs.Machine.{Out, go, halt}
+use Rattle.lifting.specs.Machine.{Out, halt}
 use Rattle.lifting.specs.Ast.{Imm, Inst, SelectionKind, boolCond, spvInst}
 
 -- Any type of values with a truth test. The rule picks one target's position from the selection's opcode and immediates, input values and

@@ -1,9 +1,9 @@
 -- All absorptions, then the drop: the kept table runs like the walk's.
 use mathlib.Core.Path.{_≡_, refl, sym, ap, _∙_, subst}
 use mathlib.Core.Logic.{_⊎_, inl, inr}
-use mathlib.Core.List.{List, [], _∷_, _++_, map}
+use mathlib.Core.List.{List, [], _∷_}
 use mathlib.Core.Option.{Option, none, some}
-use Prim.Native.Nat.{ℕ, zero, suc, _+_, _≤_, _<_}
+use Prim.Native.Nat.{ℕ, zero, suc, _<_}
 use native.Mathlib.Decide.{ℕ-discrete}
 use native.Mathlib.Omega.{arith}
 use lib.ListN.{getD, length}
@@ -23,46 +23,46 @@ use Rattle.runs.specs.AbsorbRun.{absorbed-alike, in-or-default}
 use Rattle.runs.specs.AbsorbCount.{Unique, absorbed-of, at-uses, block-keys, counts-after, first-after, in-labels, sole-straight, unique-after}
 
 -- two tables that agree at every point that a run can come to
-module _ (F : Func) {Val : Type 0} (W : World Val) (B B′ : CfgPoint → BlockLifting) (P : CfgPoint → Type 0)
-    (start : P (regionEntry 0)) (closed : (q p : CfgPoint) → P q → In p (B q .term .targets) → P p) (agree : (q : CfgPoint) → P q → B q ≡ B′ q) where
+module _ (F : Func) {Val : Type 0} (W : World Val) (B Joined : CfgPoint → BlockLifting) (P : CfgPoint → Type 0)
+    (start : P (regionEntry 0)) (closed : (q p : CfgPoint) → P q → In p (B q .term .targets) → P p) (agree : (q : CfgPoint) → P q → B q ≡ Joined q) where
   data Same : PointState Val → PointState Val → Type 0 where
     same : (q : CfgPoint) (is : List ℕ) (m : Mem Val Value) → P q → Same (record { at = q; ops = is; mem = m }) (record { at = q; ops = is; mem = m })
 
-  same-jump : (e : Terminator) (q : CfgPoint) (m : Mem Val Value) → P q → MeetOut Same (jump F W B e q m) (jump F W B′ e q m)
+  same-jump : (e : Terminator) (q : CfgPoint) (m : Mem Val Value) → P q → MeetOut Same (jump F W B e q m) (jump F W Joined e q m)
   same-jump e q m h = subst (λ (x : BlockLifting). MeetOut Same (jump F W B e q m)
       (reading (reads (m .env) (valsOr (find eqPoint q (e .vals)) (x .defaults))) (λ ws. go (record { at = q; ops = x .ops; mem = sets (x .keys) ws m })))) (agree q h)
       (meet-reading Same (reads (m .env) (edge F W B e q)) _ _ (λ ws. out-go (same q (B q .ops) (sets (B q .keys) ws m) h)))
 
   same-nth : (e : Terminator) (i : ℕ) (m : Mem Val Value) → ((p : CfgPoint) → In p (e .targets) → P p)
-      → MeetOut Same (jump F W B e (getD (e .targets) i (regionEntry 0)) m) (jump F W B′ e (getD (e .targets) i (regionEntry 0)) m)
+      → MeetOut Same (jump F W B e (getD (e .targets) i (regionEntry 0)) m) (jump F W Joined e (getD (e .targets) i (regionEntry 0)) m)
   same-nth e i m h = same-jump e (getD (e .targets) i (regionEntry 0)) m (by-case (in-or-default (e .targets) i (regionEntry 0)))
     where
       by-case : In (getD (e .targets) i (regionEntry 0)) (e .targets) ⊎ (getD (e .targets) i (regionEntry 0) ≡ regionEntry 0) → P (getD (e .targets) i (regionEntry 0))
       by-case (inl x) = h _ x
       by-case (inr x) = subst P (sym x) start
 
-  same-out : (k : ControlInstKind) (e : Terminator) (vs : List Val) (m : Mem Val Value) → ((p : CfgPoint) → In p (e .targets) → P p) → MeetOut Same (pointWay F W B k e vs m) (pointWay F W B′ k e vs m)
+  same-out : (k : ControlInstKind) (e : Terminator) (vs : List Val) (m : Mem Val Value) → ((p : CfgPoint) → In p (e .targets) → P p) → MeetOut Same (pointWay F W B k e vs m) (pointWay F W Joined k e vs m)
   same-out unreachable e vs m h = out-halt
   same-out return e vs m h = out-halt
   same-out branch e vs m h = same-nth e 0 m h
   same-out (selectBranch k) e vs m h = same-nth e (pick W k vs (length (e .targets))) m h
   same-out (exitInvocation i) e vs m h = out-halt
 
-  same-run : (is : List ℕ) (q : CfgPoint) (m : Mem Val Value) → P q → MeetOut Same (doOps F W B is q m) (doOps F W B′ is q m)
-  same-run [] q m h = subst (λ (x : BlockLifting). MeetOut Same (leavePoint F W B (B q .term) m) (leavePoint F W B′ (x .term) m)) (agree q h)
+  same-run : (is : List ℕ) (q : CfgPoint) (m : Mem Val Value) → P q → MeetOut Same (doOps F W B is q m) (doOps F W Joined is q m)
+  same-run [] q m h = subst (λ (x : BlockLifting). MeetOut Same (leavePoint F W B (B q .term) m) (leavePoint F W Joined (x .term) m)) (agree q h)
       (meet-reading Same (reads (m .env) (B q .term .ins)) _ _ (λ vs. same-out (B q .term .kind) (B q .term) vs m (λ p i. closed q p h i)))
   same-run (i ∷ is) q m h = meet-reading Same (reads (m .env) (opOf F i .operands)) _ _ (λ vs. out-go (same q is (execute W (opOf F i) i vs m) h))
 
-  same-log : {x y : PointState Val} → Same x y → pointLog F W B x ≡ pointLog F W B′ y
+  same-log : {x y : PointState Val} → Same x y → pointLog F W B x ≡ pointLog F W Joined y
   same-log (same q is m h) = refl
 
-  same-macro : {x y : PointState Val} → Same x y → Macro (pointStep F W B) (pointLog F W B) (pointStep F W B′) (pointLog F W B′) Same x y
+  same-macro : {x y : PointState Val} → Same x y → Macro (pointStep F W B) (pointLog F W B) (pointStep F W Joined) (pointLog F W Joined) Same x y
   same-macro (same q is m h) = at-once _ _ _ _ _ _ _ (same-run is q m h)
 
-  pub agree-alike : Alike (pointStep F W B) (pointLog F W B) (pointStep F W B′) (pointLog F W B′) (pointStart F W B) (pointStart F W B′)
+  pub agree-alike : Alike (pointStep F W B) (pointLog F W B) (pointStep F W Joined) (pointLog F W Joined) (pointStart F W B) (pointStart F W Joined)
   agree-alike =
       let m : Mem Val Value = record { env = atFirst F W; log = [] } in
-      subst (λ (x : BlockLifting). Alike (pointStep F W B) (pointLog F W B) (pointStep F W B′) (pointLog F W B′) (pointStart F W B) (record { at = regionEntry 0; ops = x .ops; mem = m })) (agree (regionEntry 0) start)
+      subst (λ (x : BlockLifting). Alike (pointStep F W B) (pointLog F W B) (pointStep F W Joined) (pointLog F W Joined) (pointStart F W B) (record { at = regionEntry 0; ops = x .ops; mem = m })) (agree (regionEntry 0) start)
       (alike-of _ _ _ _ Same (record { same-log = same-log; macro = same-macro }) (same (regionEntry 0) (B (regionEntry 0) .ops) m start))
 
 -- what stays true while blocks are absorbed
@@ -84,16 +84,16 @@ module _ (F : Func) {Val : Type 0} (W : World Val) (T : Table) where
       let U = s .table in
       let c = blockAt U t in
       let l : blockAt U b .term ≡ straight t = sole-straight (blockAt U b .term) t e in
-      let u′ : useCount U t ≡ 1 = sym (k .counted t) ∙ u in
+      let u-right : useCount U t ≡ 1 = sym (k .counted t) ∙ u in
       record {
         tidy = record {
           starts = first-after b t c U (regionEntry 0) ∙ k .tidy .starts;
           unique = unique-after b t c U (k .tidy .unique);
           no-phis = λ q h. let w = block-keys b t c U q in w .1 ∙ k .tidy .no-phis q (sym (w .0) ∙ h);
         };
-        counted = λ q. ap (λ (n : ℕ). choose (eqPoint q t) 0 n) (k .counted q) ∙ counts-after U b t q (k .tidy .unique) l u′;
+        counted = λ q. ap (λ (n : ℕ). choose (eqPoint q t) 0 n) (k .counted q) ∙ counts-after U b t q (k .tidy .unique) l u-right;
         alike = alike-trans (k .alike)
-            (absorbed-alike F W (blockAt U) (blockAt (fuse b t c U)) b t (absorbed-of U b t (k .tidy .starts) l u′ ks (k .tidy .no-phis t ks)));
+            (absorbed-alike F W (blockAt U) (blockAt (fuse b t c U)) b t (absorbed-of U b t (k .tidy .starts) l u-right ks (k .tidy .no-phis t ks)));
       }
 
   try-one : (b : CfgPoint) (s : Absorbing) → Kept F W T s → (o : Option CfgPoint) → soleTarget (blockAt (s .table) b .term) ≡ o → Kept F W T (tryTarget b o s)

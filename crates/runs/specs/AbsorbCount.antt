@@ -1,13 +1,9 @@
 -- What use counts say: a target of count 1 has its absorber as its only edge; counts after an absorption.
 use mathlib.Core.Path.{_≡_, refl, sym, ap, _∙_, subst}
-use mathlib.Core.Logic.{_⊎_, inl, inr}
-use mathlib.Core.Bool.{Bool, true, false, cond}
-use mathlib.Core.List.{List, [], _∷_, _++_, map}
+use mathlib.Core.List.{List, [], _∷_, _++_}
 use mathlib.Core.Option.{Option, none, some}
-use Prim.Native.Nat.{ℕ, zero, suc, _+_, _≤_, _<_}
-use native.Mathlib.Decide.{ℕ-discrete}
+use Prim.Native.Nat.{ℕ, zero, suc, _+_, _≤_}
 use native.Mathlib.Omega.{arith}
-use lib.ListN.{getD, length}
 use Rattle.lifting.specs.Lists.{choose, choose-no, choose-yes, find}
 use Rattle.lifting.specs.Ast.{ControlInstKind, Value, branch, exitInvocation, return, selectBranch, unreachable}
 use Rattle.lifting.specs.Parts.{targets}
@@ -70,13 +66,13 @@ pub two-uses : (T : Table) (p r q : CfgPoint) → ¬ (p ≡ r) → usesAt T p q 
 two-uses [] p r q n = omega arith
 two-uses (x ∷ T) p r q n = by-case (eqPoint p (x .0)) (eqPoint r (x .0)) (at-uses T p q) (at-uses T r q) (two-uses T p r q n)
   where
-    by-case : (d : Dec (p ≡ x .0)) (d′ : Dec (r ≡ x .0)) → usesAt T p q ≤ uses T q → usesAt T r q ≤ uses T q → usesAt T p q + usesAt T r q ≤ uses T q
-        → countIn q (labels (blockOr (choose d (some (x .1)) (find eqPoint p T)) .term)) + countIn q (labels (blockOr (choose d′ (some (x .1)) (find eqPoint r T)) .term))
+    by-case : (d : Dec (p ≡ x .0)) (d-right : Dec (r ≡ x .0)) → usesAt T p q ≤ uses T q → usesAt T r q ≤ uses T q → usesAt T p q + usesAt T r q ≤ uses T q
+        → countIn q (labels (blockOr (choose d (some (x .1)) (find eqPoint p T)) .term)) + countIn q (labels (blockOr (choose d-right (some (x .1)) (find eqPoint r T)) .term))
         ≤ countIn q (labels (x .1 .term)) + uses T q
-    by-case (yes e) (yes e′) h h′ h″ = absurd (n (e ∙ sym e′))
-    by-case (yes e) (no n′) h h′ h″ = omega arith
-    by-case (no n′) (yes e) h h′ h″ = omega arith
-    by-case (no n′) (no n″) h h′ h″ = omega arith
+    by-case (yes e) (yes e-right) h h-right h-last = absurd (n (e ∙ sym e-right))
+    by-case (yes e) (no n-right) h h-right h-last = omega arith
+    by-case (no n-right) (yes e) h h-right h-last = omega arith
+    by-case (no n-right) (no n-last) h h-right h-last = omega arith
 
 -- absorption as seen from one point
 abbrev pub onSome : (BlockLifting → BlockLifting) → Option BlockLifting → Option BlockLifting
@@ -181,28 +177,28 @@ fuse-uses b t c q n (x ∷ T) u = by-case (eqPoint b (x .0)) (eqPoint t (x .0)) 
     X : ℕ
     X = countIn q (labels (x .1 .term))
 
-    by-case : (d : Dec (b ≡ x .0)) (d′ : Dec (t ≡ x .0))
+    by-case : (d : Dec (b ≡ x .0)) (d-right : Dec (t ≡ x .0))
         → uses (fuse b t c T) q + (usesAt T b q + usesAt T t q) ≡ uses T q + gain (find eqPoint b T) K
         → countIn q (labels (refit b t c (x .0) (x .1) .term)) + uses (fuse b t c T) q
-        + (countIn q (labels (blockOr (choose d (some (x .1)) (find eqPoint b T)) .term)) + countIn q (labels (blockOr (choose d′ (some (x .1)) (find eqPoint t T)) .term)))
+        + (countIn q (labels (blockOr (choose d (some (x .1)) (find eqPoint b T)) .term)) + countIn q (labels (blockOr (choose d-right (some (x .1)) (find eqPoint t T)) .term)))
         ≡ X + uses T q + gain (choose d (some (x .1)) (find eqPoint b T)) K
-    by-case (yes e) (yes e′) h = absurd (n (e ∙ sym e′))
-    by-case (yes e) (no n′) h =
+    by-case (yes e) (yes e-right) h = absurd (n (e ∙ sym e-right))
+    by-case (yes e) (no n-right) h =
         let nb : find eqPoint b T ≡ none = subst (λ (p : CfgPoint). find eqPoint p T ≡ none) (sym e) (u .0) in
         let r : countIn q (labels (refit b t c (x .0) (x .1) .term)) ≡ K
         = ap (λ (d : BlockLifting). countIn q (labels (d .term))) (subst (λ (p : CfgPoint). refit b t c p (x .1) ≡ joined (x .1) c) e (refit-b b t c (x .1) n)) in
         let a = absent T b q nb in
         let g : gain (find eqPoint b T) K ≡ 0 = ap (λ (o : Option BlockLifting). gain o K) nb in
         omega arith
-    by-case (no n′) (yes e) h =
+    by-case (no n-right) (yes e) h =
         let nt : find eqPoint t T ≡ none = subst (λ (p : CfgPoint). find eqPoint p T ≡ none) (sym e) (u .0) in
         let r : countIn q (labels (refit b t c (x .0) (x .1) .term)) ≡ 0
         = ap (λ (d : BlockLifting). countIn q (labels (d .term))) (subst (λ (p : CfgPoint). refit b t c p (x .1) ≡ emptied (x .1)) e (refit-t b t c (x .1))) in
         let a = absent T t q nt in
         omega arith
-    by-case (no n′) (no n″) h =
+    by-case (no n-right) (no n-last) h =
         let r : countIn q (labels (refit b t c (x .0) (x .1) .term)) ≡ X
-        = ap (λ (d : BlockLifting). countIn q (labels (d .term))) (refit-other b t c (x .0) (x .1) (λ z. n″ (sym z)) (λ z. n′ (sym z))) in
+        = ap (λ (d : BlockLifting). countIn q (labels (d .term))) (refit-other b t c (x .0) (x .1) (λ z. n-last (sym z)) (λ z. n-right (sym z))) in
         omega arith
 
 -- a block that would absorb itself

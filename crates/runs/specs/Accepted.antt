@@ -1,9 +1,9 @@
 -- What the refusals leave of a text with a body, as its runs need it: each field under the refusal that gives it. Assumes nothing.
 use mathlib.Core.Path.{_≡_}
-use mathlib.Core.Bool.{Bool, true, false}
-use mathlib.Core.List.{List, [], _∷_}
-use mathlib.Core.Option.{Option, none, some}
-use Prim.Native.Nat.{ℕ, zero, suc, _≤_, _<_}
+use mathlib.Core.Bool.{false}
+use mathlib.Core.List.{List}
+use mathlib.Core.Option.{some}
+use Prim.Native.Nat.{ℕ, suc, _<_}
 use lib.ListN.{length}
 use Rattle.opcodes.specs.Table.{table}
 use Rattle.lifting.specs.Lists.{within}

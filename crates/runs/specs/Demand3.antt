@@ -2,10 +2,10 @@
 -- blocks of the list reach the same lists of executed instructions, and one ends exactly if the other does, alike. And demand 2's claims
 -- about every accepted text: new ids run on without repeats, and each phi has one pair for each kept block with an edge to its block.
 -- No hypothesis beyond the answer: what the runs need follows from the refusals' own tests (`accepted-of`). Assumes nothing.
-use mathlib.Core.Path.{_≡_, refl, sym, ap, _∙_, subst}
+use mathlib.Core.Path.{_≡_, sym, ap, _∙_, subst}
 use mathlib.Core.Bool.{true}
 use mathlib.Core.List.{List}
-use mathlib.Core.Option.{Option, some, Option·some-injective}
+use mathlib.Core.Option.{some, Option·some-injective}
 use Prim.Native.Nat.{ℕ, _+_, _<_}
 use lib.ListN.{length, getD}
 use Rattle.lifting.specs.Ast.{Func}
@@ -52,6 +52,10 @@ module _ (text : List ℕ) (first func work out : ℕ) (ws : List ℕ) (next : �
   pub new-ids : NoDup (names F T K) × ((k : ℕ) → k < length (names F T K) → newId F first T K (getD (names F T K) k theFunction) ≡ first + k) × (first + length (names F T K) ≡ next)
   new-ids = (no-name-twice F first accepted body, ids-in-order F first accepted body, ids-up-to F first accepted body ∙ sym (passed .next-is))
 
+  -- any world will do: what the emitter needs of the blocks does not depend on it
+  abbrev someWorld : World (Unit {0})
+  someWorld = record { arg = λ i. tt; constant = λ c. tt; result = λ n. tt; truth = λ v. true; rule = λ i vs n. 0; rule-lt = λ i vs n h. h }
+
   -- phi j of the kept block at q
-  pub phi-pairs : {Val : Type 0} (W : World Val) (q : CfgPoint) (j : ℕ) → OnePairEach F first T K q j (pairs F first T K K q j)
-  phi-pairs W q j = one-pair-each F first T K (sound F first accepted body W) (no-point-twice F first accepted body) q j
+  pub phi-pairs : (q : CfgPoint) (j : ℕ) → OnePairEach F first T K q j (pairs F first T K K q j)
+  phi-pairs q j = one-pair-each F first T K (sound F first accepted body someWorld) (no-point-twice F first accepted body) q j

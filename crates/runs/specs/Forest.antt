@@ -1,13 +1,13 @@
 -- Refusal 5 as document 01 has it, no region of itself through others, gives the rank that the walk needs.
 use mathlib.Core.Path.{_≡_, refl, sym, ap, _∙_, subst}
-use mathlib.Core.Logic.{_⊎_, inl, inr}
+use mathlib.Core.Logic.{inl, inr}
 use mathlib.Core.Bool.{Bool, true, false, cond, false≢true}
-use mathlib.Core.List.{List, [], _∷_, _++_}
+use mathlib.Core.List.{List, [], _∷_}
 use mathlib.Core.Option.{Option, none, some}
 use Prim.Native.Nat.{ℕ, zero, suc, _+_, _-_, _≤_, _<_}
 use native.Mathlib.Decide.{ℕ-discrete, decLt}
 use native.Mathlib.Omega.{arith}
-use lib.ListN.{length, getD, List·getD-eq-default}
+use lib.ListN.{length, List·getD-eq-default}
 use Rattle.lifting.specs.Lists.{within}
 use Rattle.lifting.specs.Ast.{Func, Region}
 use Rattle.lifting.specs.Parts.{childrenOf, nodeOf, regionOf}
@@ -117,7 +117,7 @@ module _ (F : Func) where
             let w = all s i in
             not-within s (around F N s) (ok .no-cycle s (pc .1)) (up-around N (w .2) (omega (arith, w .1, missing-less N seen r lt nw)))) in
             let w = ih s (pc .1) fresh all in
-            (suc (w .0), omega (arith, w .1, missing-less N seen r lt nw), one-up e (w .2))
+            (suc (w .0), omega (arith, w .1, missing-less N seen r lt nw), one-up {m = w .0} e (w .2))
 
     abbrev more : (ℕ → ℕ) → Option ℕ → ℕ
     more h none = 0

@@ -1,13 +1,13 @@
 -- New ids are distinct, and what is read and set by key is read and set by id.
 use mathlib.Core.Path.{_≡_, refl, sym, ap, _∙_, subst}
 use mathlib.Core.Logic.{_⊎_, inl, inr}
-use mathlib.Core.Bool.{Bool, true, false, not}
+use mathlib.Core.Bool.{Bool, not}
 use mathlib.Core.List.{List, [], _∷_, _++_, map}
-use mathlib.Core.Option.{Option, none, some}
-use Prim.Native.Nat.{ℕ, zero, suc, _+_, _≤_, _<_}
+use mathlib.Core.Option.{Option, some}
+use Prim.Native.Nat.{ℕ, suc, _≤_, _<_}
 use native.Mathlib.Decide.{ℕ-discrete}
 use native.Mathlib.Omega.{arith}
-use lib.ListN.{getD, length}
+use lib.ListN.{length}
 use Rattle.lifting.specs.Lists.{choose, choose-no, choose-yes}
 use Rattle.lifting.specs.Ast.{Func, Value, const, dataInstOutput, eqValue, nodeOutput, regionInput}
 use Rattle.lifting.specs.Parts.{constOf}

@@ -72,22 +72,22 @@ ops-fuse b t c i n (x ∷ T) u = by-case (eqPoint b (x .0)) (eqPoint t (x .0)) (
     R : BlockLifting
     R = refit b t c (x .0) (x .1)
 
-    by-case : (d : Dec (b ≡ x .0)) (d′ : Dec (t ≡ x .0)) → times ℕ-discrete i (opsOf (fuse b t c T)) + timesAt T t i ≡ times ℕ-discrete i (opsOf T) + gain (find eqPoint b T) K
-        → times ℕ-discrete i (R .ops ++ opsOf (fuse b t c T)) + times ℕ-discrete i (blockOr (choose d′ (some (x .1)) (find eqPoint t T)) .ops)
+    by-case : (d : Dec (b ≡ x .0)) (d-right : Dec (t ≡ x .0)) → times ℕ-discrete i (opsOf (fuse b t c T)) + timesAt T t i ≡ times ℕ-discrete i (opsOf T) + gain (find eqPoint b T) K
+        → times ℕ-discrete i (R .ops ++ opsOf (fuse b t c T)) + times ℕ-discrete i (blockOr (choose d-right (some (x .1)) (find eqPoint t T)) .ops)
         ≡ times ℕ-discrete i (x .1 .ops ++ opsOf T) + gain (choose d (some (x .1)) (find eqPoint b T)) K
-    by-case (yes e) (yes e′) h = absurd (n (e ∙ sym e′))
-    by-case (yes e) (no n′) h =
+    by-case (yes e) (yes e-right) h = absurd (n (e ∙ sym e-right))
+    by-case (yes e) (no n-right) h =
         let nb : find eqPoint b T ≡ none = subst (λ (p : CfgPoint). find eqPoint p T ≡ none) (sym e) (u .0) in
         let r : times ℕ-discrete i (R .ops) ≡ X + K = ap (λ (d : BlockLifting). times ℕ-discrete i (d .ops)) (subst (λ (p : CfgPoint). refit b t c p (x .1) ≡ joined (x .1) c) e (refit-b b t c (x .1) n)) ∙ times-append i (x .1 .ops) (c .ops) in
         let g : gain (find eqPoint b T) K ≡ 0 = ap (λ (o : Option BlockLifting). gain o K) nb in
         omega (arith, times-append i (R .ops) (opsOf (fuse b t c T)), times-append i (x .1 .ops) (opsOf T))
-    by-case (no n′) (yes e) h =
+    by-case (no n-right) (yes e) h =
         let nt : find eqPoint t T ≡ none = subst (λ (p : CfgPoint). find eqPoint p T ≡ none) (sym e) (u .0) in
         let r : times ℕ-discrete i (R .ops) ≡ 0 = ap (λ (d : BlockLifting). times ℕ-discrete i (d .ops)) (subst (λ (p : CfgPoint). refit b t c p (x .1) ≡ emptied (x .1)) e (refit-t b t c (x .1))) in
         let a = absent-ops T t i nt in
         omega (arith, times-append i (R .ops) (opsOf (fuse b t c T)), times-append i (x .1 .ops) (opsOf T))
-    by-case (no n′) (no n″) h =
-        let r : times ℕ-discrete i (R .ops) ≡ X = ap (λ (d : BlockLifting). times ℕ-discrete i (d .ops)) (refit-other b t c (x .0) (x .1) (λ z. n″ (sym z)) (λ z. n′ (sym z))) in
+    by-case (no n-right) (no n-last) h =
+        let r : times ℕ-discrete i (R .ops) ≡ X = ap (λ (d : BlockLifting). times ℕ-discrete i (d .ops)) (refit-other b t c (x .0) (x .1) (λ z. n-last (sym z)) (λ z. n-right (sym z))) in
         omega (arith, times-append i (R .ops) (opsOf (fuse b t c T)), times-append i (x .1 .ops) (opsOf T))
 
 ops-self : (t : CfgPoint) (c : BlockLifting) (i : ℕ) → (T : Table) → times ℕ-discrete i (opsOf (fuse t t c T)) ≤ times ℕ-discrete i (opsOf T)

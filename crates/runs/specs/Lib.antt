@@ -1,5 +1,8 @@
 pub mod Members
+pub mod Tests
 pub mod Accepted
+pub mod Refers
+pub mod Fits
 pub mod Simulation
 pub mod PointRun
 pub mod Places
@@ -7,6 +10,9 @@ pub mod Structure
 pub mod AbsorbRun
 pub mod AbsorbCount
 pub mod AbsorbAll
+pub mod Each
+pub mod Used
+pub mod Passes
 pub mod Ids
 pub mod Listing
 pub mod EmitRun
@@ -22,11 +28,5 @@ pub mod AcceptedRuns
 pub mod IdsOnce
 pub mod Numbering
 pub mod Pairs
-pub mod Tests
-pub mod Each
-pub mod Refers
-pub mod Fits
-pub mod Used
-pub mod Passes
 pub mod Demand3
 pub mod WitnessRuns

@@ -1,12 +1,12 @@
 -- The emitted list read back: its blocks, their phis, their ops and ways out. An op or a way out that the text gives is none of the
 -- table's instructions (refusal 4), so it is taken for nothing else. Assumes nothing.
-use mathlib.Core.Path.{_≡_, refl, sym, ap, _∙_, subst}
-use mathlib.Core.Bool.{Bool, true, false, not, cond, _||_, false≢true}
+use mathlib.Core.Path.{_≡_, refl, sym, ap, _∙_}
+use mathlib.Core.Bool.{Bool, true, false, not, _||_, false≢true}
 use mathlib.Core.List.{List, [], _∷_, _++_, map, append-assoc, append-nil}
-use Prim.Native.Nat.{ℕ, zero, suc}
+use Prim.Native.Nat.{ℕ, suc}
 use native.Mathlib.Decide.{ℕ-discrete}
 use lib.Dec.{eqb}
-use lib.ListN.{getD, length}
+use lib.ListN.{length}
 use borrow.Author.Tests.{eqb-true}
 use Rattle.opcodes.specs.Table.{table, opcodeOf}
 use Rattle.opcodes.specs.declared.InstKind.{InstKind}

@@ -1,11 +1,10 @@
 -- Demand 2: a phi has one pair for each kept block with an edge to it, holding that edge's value. Assumes nothing.
 use mathlib.Core.Path.{_≡_, refl, sym, ap, _∙_, subst}
-use mathlib.Core.Logic.{_⊎_, inl, inr}
-use mathlib.Core.Bool.{true}
+use mathlib.Core.Logic.{inl, inr}
 use mathlib.Core.List.{List, [], _∷_, _++_, map}
-use Prim.Native.Nat.{ℕ, zero, suc, _+_, _≤_, _<_}
+use Prim.Native.Nat.{ℕ, zero, suc, _+_, _<_}
 use native.Mathlib.Omega.{arith}
-use lib.ListN.{length, getD}
+use lib.ListN.{getD}
 use Rattle.lifting.specs.Lists.{choose, gather}
 use Rattle.lifting.specs.Ast.{Func, const}
 use Rattle.lifting.specs.Points.{BlockLifting, CfgPoint, Table, edgeOf, eqPoint, points}

@@ -1,11 +1,8 @@
 -- The blocks of `from_func_decl` at the points of regions and nodes, before absorption, and what the walk visits.
-use mathlib.Core.Path.{_≡_, refl}
-use mathlib.Core.Bool.{Bool, true, false, cond}
-use mathlib.Core.List.{List, [], _∷_, _++_, map}
-use mathlib.Core.Option.{Option, none, some}
-use Prim.Native.Nat.{ℕ, zero, suc, _+_, _<_}
-use lib.ListN.{getD, length}
-use lib.Dec.{eqb}
+use mathlib.Core.Path.{_≡_}
+use mathlib.Core.List.{List, _∷_}
+use mathlib.Core.Option.{some}
+use Prim.Native.Nat.{ℕ}
 use Rattle.lifting.specs.Ast.{ControlInst, Decl, Func, SelectionKind, Value, loop, select}
 use Rattle.lifting.specs.Parts.{ctrlOf, nodeOf, regionOf}
 use Rattle.lifting.specs.Points.{BlockLifting, CfgPoint, nodeEntry, nodeExit, regionEntry, regionExit}

@@ -1,9 +1,6 @@
 -- Blocks at points, and the run of blocks over any table of them.
-use mathlib.Core.Path.{_≡_, refl}
-use mathlib.Core.Bool.{Bool, true, false, cond}
-use mathlib.Core.List.{List, [], _∷_, _++_, map}
-use mathlib.Core.Option.{Option, none, some}
-use Prim.Native.Nat.{ℕ, zero, suc, _+_, _<_}
+use mathlib.Core.List.{List, [], _∷_}
+use Prim.Native.Nat.{ℕ}
 use lib.ListN.{getD, length}
 use Rattle.lifting.specs.Lists.{find}
 use Rattle.lifting.specs.Ast.{ControlInstKind, Func, Value, branch, exitInvocation, return, selectBranch, unreachable}

@@ -1,10 +1,8 @@
 -- Two machines run alike where a relation between their states is kept: each side may take quiet steps, which leave the log alone, and
 -- then both step, or both end in the same way. Assumes nothing.
-use mathlib.Core.Path.{_≡_, refl, sym, ap, _∙_, subst}
-use mathlib.Core.Logic.{_⊎_, inl, inr}
-use Prim.Native.Nat.{ℕ, zero, suc, _+_, _≤_, _<_}
+use mathlib.Core.Path.{_≡_, refl, sym, ap, _∙_}
+use Prim.Native.Nat.{ℕ, zero, suc, _≤_}
 use native.Mathlib.Omega.{arith}
-use native.Mathlib.Nat.{zero-add, suc-add}
 use Rattle.lifting.specs.Machine.{Alike, Ends, Out, Reaches, after, go, halt, onward}
 
 module _ {S H L : Type 0} (step : S → Out S H) (log : S → L) where
@@ -35,7 +33,7 @@ module _ {S H L : Type 0} (step : S → Out S H) (log : S → L) where
 module _ {S T H L : Type 0} (stepS : S → Out S H) (logS : S → L) (stepT : T → Out T H) (logT : T → L) where
   -- where the two come together again: both step and stay related, or both end alike
   pub data Meet (R : S → T → Type 0) : S → T → Type 0 where
-    both-go : {s : S} {t : T} (s′ : S) (t′ : T) → stepS s ≡ go s′ → stepT t ≡ go t′ → R s′ t′ → Meet R s t
+    both-go : {s : S} {t : T} (s-next : S) (t-next : T) → stepS s ≡ go s-next → stepT t ≡ go t-next → R s-next t-next → Meet R s t
     both-halt : {s : S} {t : T} (h : H) → stepS s ≡ halt h → stepT t ≡ halt h → Meet R s t
 
   pub record Macro (R : S → T → Type 0) (s : S) (t : T) : Type 0 where
@@ -52,14 +50,14 @@ module _ {S T H L : Type 0} (stepS : S → Out S H) (logS : S → L) (stepT : T 
 go-halt : {S H : Type 0} {t : S} {h : H} → go t ≡ halt h → ⊥
 go-halt {S} {H} {t} {h} e = let z : _≡_ {A = ℕ} 0 1 = cc in omega arith
 
-halt-inj : {S H : Type 0} {h h′ : H} → _≡_ {A = Out S H} (halt h) (halt h′) → h ≡ h′
+halt-inj : {S H : Type 0} {h g : H} → _≡_ {A = Out S H} (halt h) (halt g) → h ≡ g
 halt-inj e = cc
 
 -- what one side does in k steps, the other does too
 module _ {S T H L : Type 0} (stepS : S → Out S H) (logS : S → L) (stepT : T → Out T H) (logT : T → L) (R : S → T → Type 0) where
-  reach-by-quiet : {s s′ : S} {t t′ : T} (k : ℕ) → Quiet stepS logS s s′ → Quiet stepT logT t t′ → logS s ≡ logT t
-      → Meet stepS logS stepT logT R s′ t′
-      → ((k′ : ℕ) → suc k′ ≤ k → (a : S) (b : T) → R a b → Reaches stepT logT b (logS (after stepS k′ a)))
+  reach-by-quiet : {s s-next : S} {t t-next : T} (k : ℕ) → Quiet stepS logS s s-next → Quiet stepT logT t t-next → logS s ≡ logT t
+      → Meet stepS logS stepT logT R s-next t-next
+      → ((m : ℕ) → suc m ≤ k → (a : S) (b : T) → R a b → Reaches stepT logT b (logS (after stepS m a)))
       → Reaches stepT logT t (logS (after stepS k s))
   reach-by-quiet zero q r l m ih = (0, sym l)
   reach-by-quiet {t} (suc k) rest r l (both-go a b e f ab) ih =
@@ -68,13 +66,13 @@ module _ {S T H L : Type 0} (stepS : S → Out S H) (logS : S → L) (stepT : T 
       (z .0, ap logT (z .1 ∙ after-go stepT logT (w .0) f) ∙ w .1 ∙ ap logS (sym (after-go stepS logS k e)))
   reach-by-quiet (suc k) rest r l (both-halt h e f) ih = (0, sym l ∙ ap logS (sym (after-halt stepS logS (suc k) e)))
   reach-by-quiet (suc k) (tick e g q) r l m ih =
-      let w = reach-by-quiet k q r (g ∙ l) m (λ k′ h. ih k′ (omega arith)) in
+      let w = reach-by-quiet k q r (g ∙ l) m (λ m h. ih m (omega arith)) in
       (w .0, w .1 ∙ ap logS (sym (after-go stepS logS k e)))
 
-  end-by-quiet : {s s′ : S} {t t′ : T} (h : H) (k : ℕ) → Quiet stepS logS s s′ → Quiet stepT logT t t′ → logS s ≡ logT t
-      → Meet stepS logS stepT logT R s′ t′
-      → ((k′ : ℕ) → suc k′ ≤ k → (a : S) (b : T) → R a b → stepS (after stepS k′ a) ≡ halt h
-      → Ends stepT logT b h (logS (after stepS k′ a)))
+  end-by-quiet : {s s-next : S} {t t-next : T} (h : H) (k : ℕ) → Quiet stepS logS s s-next → Quiet stepT logT t t-next → logS s ≡ logT t
+      → Meet stepS logS stepT logT R s-next t-next
+      → ((m : ℕ) → suc m ≤ k → (a : S) (b : T) → R a b → stepS (after stepS m a) ≡ halt h
+      → Ends stepT logT b h (logS (after stepS m a)))
       → stepS (after stepS k s) ≡ halt h
       → Ends stepT logT t h (logS (after stepS k s))
   end-by-quiet h zero rest r l (both-go a b e f ab) ih x = absurd (go-halt (sym e ∙ x))
@@ -83,32 +81,32 @@ module _ {S T H L : Type 0} (stepS : S → Out S H) (logS : S → L) (stepT : T 
       let z = quiet-after stepT logT r (suc (w .0)) in
       let p = z .1 ∙ after-go stepT logT (w .0) f in
       (z .0, ap stepT p ∙ w .1, ap logT p ∙ w .2 ∙ ap logS (sym (after-go stepS logS k e)))
-  end-by-quiet h k rest r l (both-halt h′ e f) ih x =
+  end-by-quiet h k rest r l (both-halt g e f) ih x =
       let c = halt-inj (sym e ∙ ap stepS (sym (after-halt stepS logS k e)) ∙ x) in
       let z = quiet-after stepT logT r 0 in
       (z .0, ap stepT (z .1) ∙ f ∙ ap halt c, ap logT (z .1) ∙ quiet-log stepT logT r ∙ sym l ∙ ap logS (sym (after-halt stepS logS k e)))
   end-by-quiet h zero (tick e g q) r l m ih x = absurd (go-halt (sym e ∙ x))
   end-by-quiet h (suc k) (tick e g q) r l m ih x =
-      let w = end-by-quiet h k q r (g ∙ l) m (λ k′ n. ih k′ (omega arith)) (ap stepS (sym (after-go stepS logS k e)) ∙ x) in
+      let w = end-by-quiet h k q r (g ∙ l) m (λ m n. ih m (omega arith)) (ap stepS (sym (after-go stepS logS k e)) ∙ x) in
       (w .0, w .1, w .2 ∙ ap logS (sym (after-go stepS logS k e)))
 
   module _ (sim : Simulation stepS logS stepT logT R) where
     reach-n : (n k : ℕ) → k ≤ n → (s : S) (t : T) → R s t → Reaches stepT logT t (logS (after stepS k s))
     reach-n zero k h s t r =
         let m = sim .macro r in
-        reach-by-quiet k (m .quiet-left) (m .quiet-right) (sim .same-log r) (m .meet) (λ k′ c. absurd (omega arith))
+        reach-by-quiet k (m .quiet-left) (m .quiet-right) (sim .same-log r) (m .meet) (λ m c. absurd (omega arith))
     reach-n (suc n) k h s t r =
         let m = sim .macro r in
-        reach-by-quiet k (m .quiet-left) (m .quiet-right) (sim .same-log r) (m .meet) (λ k′ c. reach-n n k′ (omega arith))
+        reach-by-quiet k (m .quiet-left) (m .quiet-right) (sim .same-log r) (m .meet) (λ m c. reach-n n m (omega arith))
 
     end-n : (h : H) (n k : ℕ) → k ≤ n → (s : S) (t : T) → R s t → stepS (after stepS k s) ≡ halt h
         → Ends stepT logT t h (logS (after stepS k s))
     end-n h zero k b s t r =
         let m = sim .macro r in
-        end-by-quiet h k (m .quiet-left) (m .quiet-right) (sim .same-log r) (m .meet) (λ k′ c. absurd (omega arith))
+        end-by-quiet h k (m .quiet-left) (m .quiet-right) (sim .same-log r) (m .meet) (λ m c. absurd (omega arith))
     end-n h (suc n) k b s t r =
         let m = sim .macro r in
-        end-by-quiet h k (m .quiet-left) (m .quiet-right) (sim .same-log r) (m .meet) (λ k′ c. end-n h n k′ (omega arith))
+        end-by-quiet h k (m .quiet-left) (m .quiet-right) (sim .same-log r) (m .meet) (λ m c. end-n h n m (omega arith))
 
     pub reach-along : {s : S} {t : T} → R s t → (l : L) → Reaches stepS logS s l → Reaches stepT logT t l
     reach-along {s} {t} r l w = let z = reach-n (w .0) (w .0) (omega arith) s t r in (z .0, z .1 ∙ w .1)
@@ -166,8 +164,8 @@ module _ {S T H L : Type 0} (stepS : S → Out S H) (logS : S → L) (stepT : T 
   at-once s t m = record { left = s; right = t; quiet-left = rest; quiet-right = rest; meet = meet-eq refl refl m }
 
   -- the right side goes ahead by a quiet step
-  pub right-first : {s : S} {t t′ : T} → stepT t ≡ go t′ → logT t′ ≡ logT t → Macro stepS logS stepT logT R s t′ → Macro stepS logS stepT logT R s t
+  pub right-first : {s : S} {t t-next : T} → stepT t ≡ go t-next → logT t-next ≡ logT t → Macro stepS logS stepT logT R s t-next → Macro stepS logS stepT logT R s t
   right-first e l m = record { left = m .left; right = m .right; quiet-left = m .quiet-left; quiet-right = tick e l (m .quiet-right); meet = m .meet }
 
-  pub left-first : {s s′ : S} {t : T} → stepS s ≡ go s′ → logS s′ ≡ logS s → Macro stepS logS stepT logT R s′ t → Macro stepS logS stepT logT R s t
+  pub left-first : {s s-next : S} {t : T} → stepS s ≡ go s-next → logS s-next ≡ logS s → Macro stepS logS stepT logT R s-next t → Macro stepS logS stepT logT R s t
   left-first e l m = record { left = m .left; right = m .right; quiet-left = tick e l (m .quiet-left); quiet-right = m .quiet-right; meet = m .meet }

@@ -1,12 +1,12 @@
 -- The run of the emitted list starts as it should, and the whole claim from what the parts need.
 use mathlib.Core.Path.{_≡_, refl, sym, ap, _∙_, subst}
-use mathlib.Core.Bool.{Bool, true, false, cond}
+use mathlib.Core.Bool.{true}
 use mathlib.Core.List.{List, [], _∷_, _++_, map}
 use mathlib.Core.Option.{Option, none, some}
 use Prim.Native.Nat.{ℕ, zero, suc, _+_, _≤_, _<_}
 use native.Mathlib.Decide.{ℕ-discrete}
 use native.Mathlib.Omega.{arith}
-use lib.ListN.{getD, length, length-map}
+use lib.ListN.{length, length-map}
 use Rattle.lifting.specs.Lists.{choose, choose-yes, find, tabulate}
 use Rattle.lifting.specs.Ast.{Const, Func, Value, const, regionInput}
 use Rattle.lifting.specs.Parts.{constOf}

@@ -107,8 +107,8 @@ module _ (F : Func) {Val : Type 0} (W : World Val) where
 
   set-at : {A : Type 0} (g : ℕ → Val) (c : ℕ) (l : List A) (k : ℕ) (e : Value → Option Val) → k ≤ c → c < k + length l
       → puts eqValue e (tabulate const k (length l)) (tabulate g k (length l)) (const c) ≡ some (g c)
-  set-at g c [] k e h h′ = absurd (omega arith)
-  set-at g c (x ∷ l) k e h h′ = by-case (ℕ-discrete c k) (λ n. set-at g c l (suc k) (put eqValue e (const k) (g k)) (omega arith) (omega arith))
+  set-at g c [] k e h h-right = absurd (omega arith)
+  set-at g c (x ∷ l) k e h h-right = by-case (ℕ-discrete c k) (λ n. set-at g c l (suc k) (put eqValue e (const k) (g k)) (omega arith) (omega arith))
     where
       by-case : Dec (c ≡ k) → (c ≢ k → puts eqValue (put eqValue e (const k) (g k)) (tabulate const (suc k) (length l)) (tabulate g (suc k) (length l)) (const c) ≡ some (g c))
           → puts eqValue (put eqValue e (const k) (g k)) (tabulate const (suc k) (length l)) (tabulate g (suc k) (length l)) (const c) ≡ some (g c)
@@ -174,9 +174,9 @@ module _ (F : Func) {Val : Type 0} (W : World Val) (B : CfgPoint → BlockLiftin
     land : {q : CfgPoint} {b : BlockLifting} (m : Mem Val Value) → B q ≡ b → landing q (B q) (B q .defaults) m ≡ landing q b (b .defaults) m
     land {q} m e = ap (λ (b : BlockLifting). landing q b (b .defaults) m) e
 
-    straight-on : {q q′ : CfgPoint} {b b′ : BlockLifting} (m : Mem Val Value) → B q ≡ b → b .term ≡ straight q′ → B q′ ≡ b′
-        → pointStep F W B (at-end q m) ≡ landing q′ b′ (b′ .defaults) m
-    straight-on m e t e′ = out-of m e ∙ ap (λ (t : Terminator). leavePoint F W B t m) t ∙ land m e′
+    straight-on : {q q-next : CfgPoint} {b b-next : BlockLifting} (m : Mem Val Value) → B q ≡ b → b .term ≡ straight q-next → B q-next ≡ b-next
+        → pointStep F W B (at-end q m) ≡ landing q-next b-next (b-next .defaults) m
+    straight-on m e t e-right = out-of m e ∙ ap (λ (t : Terminator). leavePoint F W B t m) t ∙ land m e-right
 
     edge-is : (t : Terminator) (q : CfgPoint) (b : BlockLifting) (vs : List Value) → t .vals ≡ someVals q vs → B q ≡ b → (vs ≡ [] → b .defaults ≡ []) → edge F W B t q ≡ vs
     edge-is t q b [] tv e d = ap (λ (l : List (CfgPoint × List Value)). valsOr (find eqPoint q l) (B q .defaults)) tv ∙ ap (λ (x : BlockLifting). x .defaults) e ∙ d refl

@@ -1,13 +1,12 @@
 -- Every terminator of the walk is as the emitter needs it, and stays so through absorption.
 use mathlib.Core.Path.{_≡_, refl, sym, ap, _∙_, subst}
-use mathlib.Core.Logic.{_⊎_, inl, inr}
-use mathlib.Core.Bool.{Bool, true, false, cond}
-use mathlib.Core.List.{List, [], _∷_, _++_, map}
+use mathlib.Core.Logic.{inl, inr}
+use mathlib.Core.Bool.{Bool, true, false}
+use mathlib.Core.List.{List, [], _∷_, map}
 use mathlib.Core.Option.{Option, none, some}
-use Prim.Native.Nat.{ℕ, zero, suc, _+_, _≤_, _<_}
-use native.Mathlib.Decide.{ℕ-discrete}
+use Prim.Native.Nat.{ℕ, zero, suc}
 use native.Mathlib.Omega.{arith}
-use lib.ListN.{getD, length, length-map}
+use lib.ListN.{length, length-map}
 use Rattle.lifting.specs.Lists.{choose-no, choose-yes, find, keys}
 use Rattle.lifting.specs.Ast.{ControlInst, Func, Node, Value, block, exit, loop, select, selectBranch}
 use Rattle.lifting.specs.Parts.{childrenOf, ctrlOf, nodeOf, regionOf, valsOr}

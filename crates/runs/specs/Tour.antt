@@ -1,11 +1,10 @@
 -- The walk: each region's entry, its nodes, its exit; each node's entry, its regions in turn, its exit.
 use mathlib.Core.Path.{_≡_, refl, sym, ap, _∙_, subst}
 use mathlib.Core.Logic.{_⊎_, inl, inr}
-use mathlib.Core.List.{List, [], _∷_, _++_, map}
-use mathlib.Core.Option.{Option, none, some}
-use Prim.Native.Nat.{ℕ, zero, suc, _+_, _≤_, _<_}
+use mathlib.Core.List.{List, [], _∷_, _++_}
+use mathlib.Core.Option.{none, some}
+use Prim.Native.Nat.{ℕ, _<_}
 use native.Mathlib.Omega.{arith}
-use lib.ListN.{getD, length}
 use Rattle.lifting.specs.Lists.{choose, choose-no, find}
 use Rattle.lifting.specs.Ast.{Func}
 use Rattle.lifting.specs.Parts.{childrenOf, nodeOf, regionOf}

@@ -1,11 +1,9 @@
 -- The walk visits each point once.
 use mathlib.Core.Path.{_≡_, refl, sym, ap, _∙_, subst}
 use mathlib.Core.Logic.{_⊎_, inl, inr}
-use mathlib.Core.List.{List, [], _∷_, _++_, map}
-use mathlib.Core.Option.{Option, none, some}
-use Prim.Native.Nat.{ℕ, zero, suc, _+_, _≤_, _<_}
+use mathlib.Core.List.{List, [], _∷_, _++_}
+use Prim.Native.Nat.{ℕ, zero, suc, _≤_}
 use native.Mathlib.Omega.{arith}
-use lib.ListN.{getD, length}
 use Rattle.lifting.specs.Ast.{Func}
 use Rattle.lifting.specs.Parts.{childrenOf, nodeOf, regionOf}
 use Rattle.lifting.specs.Points.{BlockLifting, CfgPoint, Table, nodeEntry, nodeExit, points, regionEntry, regionExit}
@@ -86,7 +84,7 @@ module _ (F : Func) (depth : ℕ) (tr : Tree F depth) where
 
   -- the region of a node, and the node of a child
   place-once : (s r m n c : ℕ) → In m (regionOf F s .nodes) → In c (childrenOf (nodeOf F m)) → In n (regionOf F r .nodes) → In c (childrenOf (nodeOf F n)) → s ≡ r
-  place-once s r m n c i j i′ j′ = tr .node-once n s r (subst (λ (x : ℕ). In x (regionOf F s .nodes)) (tr .child-once m n c j j′) i) i′
+  place-once s r m n c i j i-right j-right = tr .node-once n s r (subst (λ (x : ℕ). In x (regionOf F s .nodes)) (tr .child-once m n c j j-right) i) i-right
 
   -- two children in one region that share a region below are one
   siblings : (r n k c b : ℕ) {d : ℕ} → In n (regionOf F r .nodes) → In c (childrenOf (nodeOf F n)) → In k (regionOf F r .nodes) → In b (childrenOf (nodeOf F k)) → Under c d → Under b d → c ≡ b
@@ -103,7 +101,7 @@ module _ (F : Func) (depth : ℕ) (tr : Tree F depth) where
       by-case (inl e) ih =
           let q = place-once s r m k b i (subst (λ (y : ℕ). In y (childrenOf (nodeOf F m))) e j) ki bi in
           absurd (omega (arith, under-rank (subst (Under c) q x), tr .rank-falls r n c ni ci))
-      by-case (inr (t, l, v, i′, j′)) ih = ih (subst (Under b) (place-once t s l m d i′ j′ i j) v)
+      by-case (inr (t, l, v, i-right, j-right)) ih = ih (subst (Under b) (place-once t s l m d i-right j-right i j) v)
 
   roots-apart : {r s d : ℕ} → Root F r → Root F s → Under r d → Under s d → r ≡ s
   roots-apart {r} {s} rr rs self u = by-case (under-cases u)
@@ -113,9 +111,9 @@ module _ (F : Func) (depth : ℕ) (tr : Tree F depth) where
       by-case (inr (t, m, v, i, j)) = absurd (rr m j)
   roots-apart {r} {s} rr rs (below {s = t} {d} m x i j) u = by-case (under-cases u) (λ v. roots-apart rr rs x v)
     where
-      by-case : (d ≡ s) ⊎ ((t′ : ℕ) × (l : ℕ) × Under s t′ × In l (regionOf F t′ .nodes) × In d (childrenOf (nodeOf F l))) → (Under s t → r ≡ s) → r ≡ s
+      by-case : (d ≡ s) ⊎ ((t-right : ℕ) × (l : ℕ) × Under s t-right × In l (regionOf F t-right .nodes) × In d (childrenOf (nodeOf F l))) → (Under s t → r ≡ s) → r ≡ s
       by-case (inl e) ih = absurd (rs m (subst (λ (y : ℕ). In y (childrenOf (nodeOf F m))) e j))
-      by-case (inr (t′, l, v, i′, j′)) ih = ih (subst (Under s) (place-once t′ t l m d i′ j′ i j) v)
+      by-case (inr (t-right, l, v, i-right, j-right)) ih = ih (subst (Under s) (place-once t-right t l m d i-right j-right i j) v)
 
   abbrev Kid : ℕ → CfgPoint → Type 0
   Kid n p = (c : ℕ) × (d : ℕ) × In c (childrenOf (nodeOf F n)) × Under c d × Home d p
@@ -189,20 +187,20 @@ module _ (F : Func) (depth : ℕ) (tr : Tree F depth) where
         )
 
     spots-apart : (r n k : ℕ) (p : CfgPoint) → In n (regionOf F r .nodes) → In k (regionOf F r .nodes) → Spot n p → Spot k p → n ≡ k
-    spots-apart r n k p ni ki (inl e) (inl e′) = entry-inj (sym e ∙ e′)
+    spots-apart r n k p ni ki (inl e) (inl e-right) = entry-inj (sym e ∙ e-right)
       where
         entry-inj : nodeEntry n ≡ nodeEntry k → n ≡ k
         entry-inj x = cc
-    spots-apart r n k p ni ki (inl e) (inr (inl e′)) = absurd (entry-exit (sym e ∙ e′))
+    spots-apart r n k p ni ki (inl e) (inr (inl e-right)) = absurd (entry-exit (sym e ∙ e-right))
     spots-apart r n k p ni ki (inl e) (inr (inr y)) = absurd (kid-home r k p ki y (subst (Home r) (sym e) (home-in ni)))
-    spots-apart r n k p ni ki (inr (inl e)) (inl e′) = absurd (entry-exit (sym e′ ∙ e))
-    spots-apart r n k p ni ki (inr (inl e)) (inr (inl e′)) = exit-inj (sym e ∙ e′)
+    spots-apart r n k p ni ki (inr (inl e)) (inl e-right) = absurd (entry-exit (sym e-right ∙ e))
+    spots-apart r n k p ni ki (inr (inl e)) (inr (inl e-right)) = exit-inj (sym e ∙ e-right)
       where
         exit-inj : nodeExit n ≡ nodeExit k → n ≡ k
         exit-inj x = cc
     spots-apart r n k p ni ki (inr (inl e)) (inr (inr y)) = absurd (kid-home r k p ki y (subst (Home r) (sym e) (home-out ni)))
-    spots-apart r n k p ni ki (inr (inr x)) (inl e′) = absurd (kid-home r n p ni x (subst (Home r) (sym e′) (home-in ki)))
-    spots-apart r n k p ni ki (inr (inr x)) (inr (inl e′)) = absurd (kid-home r n p ni x (subst (Home r) (sym e′) (home-out ki)))
+    spots-apart r n k p ni ki (inr (inr x)) (inl e-right) = absurd (kid-home r n p ni x (subst (Home r) (sym e-right) (home-in ki)))
+    spots-apart r n k p ni ki (inr (inr x)) (inr (inl e-right)) = absurd (kid-home r n p ni x (subst (Home r) (sym e-right) (home-out ki)))
     spots-apart r n k p ni ki (inr (inr (c, d, ci, u, h))) (inr (inr (b, e, bi, v, g))) =
         let q : e ≡ d = home-once g h in
         let cb = siblings r n k c b ni ci ki bi u (subst (Under b) q v) in

@@ -2,10 +2,10 @@
 use mathlib.Core.Path.{_≡_, refl}
 use mathlib.Core.Bool.{true}
 use mathlib.Core.Option.{some}
-use Prim.Native.Nat.{ℕ, zero, suc}
+use Prim.Native.Nat.{zero, suc}
 use native.Mathlib.Omega.{arith}
 use Rattle.lifting.specs.Grammar.{read}
-use Rattle.lifting.specs.Parts.{constOf, hasBody}
+use Rattle.lifting.specs.Parts.{hasBody}
 use Rattle.lifting.specs.Limits.{scratchWords}
 use Rattle.lifting.specs.Words.{listFrom}
 use Rattle.lifting.specs.World.{World}
