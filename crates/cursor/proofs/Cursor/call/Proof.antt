@@ -1,0 +1,27 @@
+-- `Cursor::call` reads a number and the closing bracket behind ` (call`. Assumes nothing.
+use borrow.Author.Needs.{needs}
+use Rattle.lifting.specs.Grammar.{one}
+use Rattle.cursor.specs.Answers.{stepOf}
+use Rattle.cursor.proofs.Laws.{told, sub-reads, sub-misses}
+use Rattle.cursor.proofs.Cursor.call.Statement.{statement}
+use Rattle.cursor.proofs.Cursor.call.Tie as tie
+
+returns : tie.Need-returns
+returns c =
+    sub-misses "call" one (told stepOf (c .enum-told .given .1) (c .before .before .word .ensures))
+
+returns-2 : tie.Need-returns-2
+returns-2 c =
+    sub-reads "call" one (told stepOf (c .before .before .c .given .1) (c .before .before .before .before .word .ensures)) (c .one .ensures)
+
+pub call-spec : {M : Type 1} → statement M
+call-spec =
+    tie.close
+    (tie.spec
+    (λ c. search needs)
+    (λ c κs. search needs)
+    (λ c. search needs)
+    (λ c. search needs)
+    returns
+    (λ c κs. search needs)
+    returns-2)

@@ -1,0 +1,14 @@
+-- `closes` says whether a byte closes the form: a closing bracket does where no other is open. Assumes nothing.
+use borrow.Author.Needs.{needs}
+use Rattle.cursor.proofs.Laws.{closes-yes, closes-no}
+use Rattle.cursor.proofs.closes.Statement.{statement}
+use Rattle.cursor.proofs.closes.Tie as tie
+
+returns : tie.Need-returns
+returns c = closes-yes _ _ (search needs)
+
+returns-2 : tie.Need-returns-2
+returns-2 c = closes-no _ _ (search needs)
+
+pub closes-spec : {M : Type 1} → statement M
+closes-spec = tie.close (tie.spec returns returns-2)
