@@ -1,0 +1,15 @@
+-- `func::look::const_total` meets its contract. Assumes nothing.
+use mathlib.Core.Path.{sym, _∙_}
+use lib.Dec.{lit<}
+use Rattle.func.specs.Tables.{const-total}
+use borrow.Author.Needs.{needs}
+use Rattle.func.proofs.look.const_total.Statement.{statement}
+use Rattle.func.proofs.look.const_total.Tie as tie
+
+pub const-total-spec : {M : Type 1} → statement M
+const-total-spec =
+    tie.close
+    (tie.spec
+    (λ c κs. (c .before .pre .size, lit< tt))
+    (λ c κs. search needs)
+    (λ c. c .wide .ensures ∙ c .before .count .ensures ∙ sym (const-total (c .before .before .before .pre))))

@@ -1,0 +1,19 @@
+-- `func::look::ctrl_kind` meets its contract. Assumes nothing.
+use mathlib.Core.Path.{ap, _∙_}
+use lib.Dec.{lit<}
+use Rattle.func.specs.Decode.{funcOf}
+use Rattle.func.specs.Kinds.{ctrlKindFrom, ctrl-kind}
+use Rattle.func.specs.Tables.{ctrlLine, ctrl-in, ctrl-words-are}
+use borrow.Author.Needs.{needs}
+use Rattle.func.proofs.look.ctrl_kind.Statement.{statement}
+use Rattle.func.proofs.look.ctrl_kind.Tie as tie
+
+pub ctrl-kind-spec : {M : Type 1} → statement M
+ctrl-kind-spec =
+    tie.close
+    (tie.spec
+    (λ c κs. let s = c .before in (ctrl-in (s .pre .0) (s .args .c) (s .pre .1), lit< tt))
+    (λ c κs. search needs)
+    (λ c.
+    let s = c .before .before .before in
+    c .ctrl-kind-of .ensures ∙ ap ctrlKindFrom (c .before .word .ensures ∙ ctrl-words-are (s .pre .0) (s .args .c) (s .pre .1) 2 (lit< tt)) ∙ ctrl-kind (ctrlLine (funcOf (s .args .func .now)) (s .args .c) .1 .kind)))

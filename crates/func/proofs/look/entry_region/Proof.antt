@@ -1,0 +1,18 @@
+-- `func::look::entry_region` meets its contract. Assumes nothing.
+use mathlib.Core.Path.{_∙_}
+use lib.Dec.{lit<}
+use Rattle.func.specs.Tables.{ctrl-in, entry-low, entry-in, entry-region-is}
+use borrow.Author.Needs.{needs}
+use Rattle.func.proofs.look.entry_region.Statement.{statement}
+use Rattle.func.proofs.look.entry_region.Tie as tie
+
+pub entry-region-spec : {M : Type 1} → statement M
+entry-region-spec =
+    tie.close
+    (tie.spec
+    (λ c κs. let s = c .before in (ctrl-in (s .pre .0) (s .args .c) (s .pre .1 .0), (lit< tt, entry-low (s .pre .0) (s .args .c) (s .pre .1 .0) (s .args .e) (s .pre .1 .1))))
+    (λ c κs. let s = c .before .before in (entry-in (s .pre .0) (s .args .c) (s .pre .1 .0) (s .args .e) (s .pre .1 .1) (c .run-at .ensures), lit< tt))
+    (λ c κs. search needs)
+    (λ c.
+    let s = c .before .before .before .before in
+    c .wide .ensures ∙ c .before .word .ensures ∙ entry-region-is (s .pre .0) (s .args .c) (s .pre .1 .0) (s .args .e) (s .pre .1 .1) (c .before .before .run-at .result) (c .before .before .run-at .ensures)))

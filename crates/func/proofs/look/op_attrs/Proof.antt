@@ -1,0 +1,13 @@
+-- `func::look::op_attrs` meets its contract. Assumes nothing.
+use mathlib.Core.Path.{_∙_}
+use lib.Dec.{lit<}
+use Rattle.func.specs.Tables.{op-in, op-words-are}
+use Rattle.func.proofs.look.op_attrs.Statement.{statement}
+use Rattle.func.proofs.look.op_attrs.Tie as tie
+
+pub op-attrs-spec : {M : Type 1} → statement M
+op-attrs-spec =
+    tie.close
+    (tie.spec
+    (λ c κs. let s = c .before in (op-in (s .pre .0) (s .args .o) (s .pre .1), lit< tt))
+    (λ c. let s = c .before .before in c .word .ensures ∙ op-words-are (s .pre .0) (s .args .o) (s .pre .1) 0 (lit< tt)))

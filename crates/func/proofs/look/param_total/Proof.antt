@@ -1,0 +1,15 @@
+-- `func::look::param_total` meets its contract. Assumes nothing.
+use mathlib.Core.Path.{sym, _∙_}
+use lib.Dec.{lit<}
+use Rattle.func.specs.Tables.{param-total}
+use borrow.Author.Needs.{needs}
+use Rattle.func.proofs.look.param_total.Statement.{statement}
+use Rattle.func.proofs.look.param_total.Tie as tie
+
+pub param-total-spec : {M : Type 1} → statement M
+param-total-spec =
+    tie.close
+    (tie.spec
+    (λ c κs. (c .before .pre .size, lit< tt))
+    (λ c κs. search needs)
+    (λ c. c .wide .ensures ∙ c .before .count .ensures ∙ sym (param-total (c .before .before .before .pre))))

@@ -1,0 +1,99 @@
+-- The rows of lines, from the marks that were taken where a line began: what the code pushes, and what a reader's proofs cite. Assumes nothing.
+--     keepRegion-is, keepNode-is, keepOp-is, keepEntry-is, keepCtrl-is     a line is its lists, one after the other, and its row
+use mathlib.Core.Path.{_≡_, refl}
+use mathlib.Core.List.{List, [], _∷_, map}
+use Prim.Native.Nat.{ℕ}
+use Rattle.lifting.specs.Ast.{Value, Op, Node, Region, ControlInst}
+use Rattle.lifting.specs.Parts.{childrenOf, outsOf, nodeValues, nodeInsts, opInsts, ctrlInsts, blockOps}
+use Rattle.func.specs.declared.OpKind.{OpKind}
+use Rattle.func.specs.declared.Marks.{Marks}
+use Rattle.func.specs.Layout.{decls, values, imms, targets, nodeRefs, opRefs, childRefs, entries, regions, nodes, ops, ctrls}
+use Rattle.func.specs.Store.{count, push, folds}
+use Rattle.func.specs.Lines.{span, keepCells, rowOf, keepLine}
+use Rattle.func.specs.Keep.{immsOf, opcodeOf, nodeNumber, ctrlNumber, regionCells, nodeCells, opCells, entryCells, ctrlCells, keepDecl, keepValue, keepImm, keepTarget, keepNodeRef, keepOpRef, keepChild, keepRegion, keepNode, keepOp, keepEntry, ctrlRow, keepCtrl}
+use Rattle.func.specs.Kinds.{opKind, opKindNumber, opKindFirst, opKindSecond, op-number, op-first, op-second}
+
+-- the counts where a line begins
+abbrev pub marksOf : List ℕ → Marks
+marksOf w = record {
+  decls = count decls w;
+  values = count values w;
+  imms = count imms w;
+  targets = count targets w;
+  nodes = count nodeRefs w;
+  ops = count opRefs w;
+  children = count childRefs w;
+  entries = count entries w;
+}
+
+-- the rows
+unfoldable pub regionRow : Marks → List ℕ → List ℕ
+regionRow m v = push regions (span (m .decls) (count decls v) ∷ span (m .nodes) (count nodeRefs v) ∷ span (m .values) (count values v) ∷ []) v
+
+unfoldable pub nodeRow : Marks → ℕ → ℕ → List ℕ → List ℕ
+nodeRow m kind opcode v =
+    push nodes
+    (kind
+    ∷ opcode
+    ∷ span (m .imms) (count imms v)
+    ∷ span (m .values) (count values v)
+    ∷ span (m .ops) (count opRefs v)
+    ∷ span (m .children) (count childRefs v)
+    ∷ span (m .decls) (count decls v)
+    ∷ [])
+    v
+
+unfoldable pub opRow : Marks → ℕ → ℕ → OpKind → List ℕ → List ℕ
+opRow m attrs type kind v =
+    push ops
+    (attrs ∷ type ∷ opKindNumber kind ∷ opKindFirst kind ∷ opKindSecond kind ∷ span (m .imms) (count imms v) ∷ span (m .values) (count values v) ∷ [])
+    v
+
+unfoldable pub entryRow : Marks → ℕ → List ℕ → List ℕ
+entryRow m region v = push entries (region ∷ span (m .values) (count values v) ∷ []) v
+
+unfoldable pub ctrlRowFrom : Marks → Marks → ℕ → ℕ → ℕ → ℕ → List ℕ → List ℕ
+ctrlRowFrom m n region attrs kind opcode u =
+    push ctrls
+    (region
+    ∷ attrs
+    ∷ kind
+    ∷ opcode
+    ∷ span (m .imms) (n .imms)
+    ∷ span (m .values) (n .values)
+    ∷ span (m .targets) (n .targets)
+    ∷ span (n .entries) (count entries u)
+    ∷ [])
+    u
+
+-- a list of parts, kept one after the other
+folds-map : {A : Type 0} (k : ℕ) (f : A → List ℕ) (xs : List A) (w : List ℕ) → folds (push k) (map f xs) w ≡ folds (λ a. push k (f a)) xs w
+unfolding folds
+folds-map k f [] w = refl
+folds-map k f (x ∷ xs) w = folds-map k f xs (push k (f x) w)
+
+pub keepRegion-is : (r : Region) (w : List ℕ) → keepRegion r w ≡ regionRow (marksOf w) (folds keepValue (r .outs) (folds keepNodeRef (r .nodes) (folds keepDecl (r .ins) w)))
+unfolding keepRegion keepLine regionCells keepCells rowOf regionRow
+keepRegion-is r w = simp folds-map
+
+pub keepNode-is : (n : Node) (w : List ℕ) → keepNode n w ≡ nodeRow (marksOf w) (nodeNumber n) (opcodeOf (nodeInsts n))
+    (folds keepDecl (outsOf n) (folds keepChild (childrenOf n) (folds keepOpRef (blockOps n) (folds keepValue (nodeValues n) (folds keepImm (immsOf (nodeInsts n)) w)))))
+unfolding keepNode keepLine nodeCells keepCells rowOf nodeRow
+keepNode-is n w = simp folds-map
+
+pub keepOp-is : (o : Op) (w : List ℕ) → keepOp o w ≡ opRow (marksOf w) (o .attrs) (o .type) (opKind (o .kind)) (folds keepValue (o .operands) (folds keepImm (immsOf (opInsts (o .kind))) w))
+unfolding keepOp keepLine opCells keepCells rowOf opRow
+keepOp-is o w = simp (folds-map, op-number, op-first, op-second)
+
+pub keepEntry-is : (e : ℕ × List Value) (w : List ℕ) → keepEntry e w ≡ entryRow (marksOf w) (e .0) (folds keepValue (e .1) w)
+unfolding keepEntry keepLine entryCells keepCells rowOf entryRow
+keepEntry-is e w = simp folds-map
+
+-- a ctrl line's own lists, and its row
+abbrev pub keepCtrlLists : ControlInst → List ℕ → List ℕ
+keepCtrlLists c w = folds keepTarget (c .to) (folds keepValue (c .ins) (folds keepImm (immsOf (ctrlInsts (c .kind))) w))
+
+pub keepCtrl-is : (c : ℕ × ControlInst) (w : List ℕ) → keepCtrl c w ≡ ctrlRowFrom (marksOf w) (marksOf (keepCtrlLists (c .1) w)) (c .0) (c .1 .attrs) (ctrlNumber (c .1 .kind)) (opcodeOf (ctrlInsts (c .1 .kind)))
+    (folds keepEntry (c .1 .vals) (keepCtrlLists (c .1) w))
+unfolding keepCtrl ctrlRow ctrlCells keepCells rowOf ctrlRowFrom
+keepCtrl-is c w = simp folds-map

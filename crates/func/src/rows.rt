@@ -1,0 +1,98 @@
+// What a row says of any text's slice, whole or not (specs/Stored): the tests of refusals 4 and 5 run before it is known that every list fits.
+use crate::pools::CHILD_REFS;
+use crate::pools::NODE_REFS;
+use crate::pools::NODES;
+use crate::pools::OPS;
+use crate::pools::REGIONS;
+use crate::pools::run_at;
+use crate::pools::run_count;
+use crate::pools::wide;
+use crate::pools::word;
+ghost use mathlib.Core.Path.{_≡_};
+ghost use Prim.Native.Nat.{_+_, _/_, _%_, _≤_};
+ghost use Rattle.func.specs.Layout.{regions, nodes, ops, nodeRefs, childRefs};
+ghost use Rattle.func.specs.Tables.{Within, word};
+
+// How many inputs region r has.
+pub fn row_ins(func: &[u32], r: usize) -> usize
+    requires { ⌜ Within regions (now func) r ⌝ }
+    ensures { λ x. ⌜ x ≡ word regions (now (func .entry)) r 0 % 4096 ⌝ }
+{
+    run_count(func, REGIONS, r, 0)
+}
+
+// How many nodes region r has.
+pub fn row_nodes(func: &[u32], r: usize) -> usize
+    requires { ⌜ Within regions (now func) r ⌝ }
+    ensures { λ x. ⌜ x ≡ word regions (now (func .entry)) r 1 % 4096 ⌝ }
+{
+    run_count(func, REGIONS, r, 1)
+}
+
+// Node i of region r.
+pub fn row_node(func: &[u32], r: usize, i: usize) -> usize
+    requires { ⌜ Within regions (now func) r ⌝ }
+    requires { ⌜ (i ≤ 4095) × Within nodeRefs (now func) (word regions (now func) r 1 / 4096 + i) ⌝ }
+    ensures { λ x. ⌜ x ≡ word nodeRefs (now (func .entry)) (word regions (now (func .entry)) r 1 / 4096 + i) 0 ⌝ }
+{
+    let at = run_at(func, REGIONS, r, 1, i);
+    wide(word(func, NODE_REFS, at, 0))
+}
+
+// How many outputs region r has.
+pub fn row_results(func: &[u32], r: usize) -> usize
+    requires { ⌜ Within regions (now func) r ⌝ }
+    ensures { λ x. ⌜ x ≡ word regions (now (func .entry)) r 2 % 4096 ⌝ }
+{
+    run_count(func, REGIONS, r, 2)
+}
+
+// The number of node n's kind.
+pub fn row_kind(func: &[u32], n: usize) -> u32
+    requires { ⌜ Within nodes (now func) n ⌝ }
+    ensures { λ x. ⌜ x ≡ word nodes (now (func .entry)) n 0 ⌝ }
+{
+    word(func, NODES, n, 0)
+}
+
+// How many values node n reads.
+pub fn row_values(func: &[u32], n: usize) -> usize
+    requires { ⌜ Within nodes (now func) n ⌝ }
+    ensures { λ x. ⌜ x ≡ word nodes (now (func .entry)) n 3 % 4096 ⌝ }
+{
+    run_count(func, NODES, n, 3)
+}
+
+// How many child regions node n has.
+pub fn row_children(func: &[u32], n: usize) -> usize
+    requires { ⌜ Within nodes (now func) n ⌝ }
+    ensures { λ x. ⌜ x ≡ word nodes (now (func .entry)) n 5 % 4096 ⌝ }
+{
+    run_count(func, NODES, n, 5)
+}
+
+// Child region i of node n.
+pub fn row_child(func: &[u32], n: usize, i: usize) -> usize
+    requires { ⌜ Within nodes (now func) n ⌝ }
+    requires { ⌜ (i ≤ 4095) × Within childRefs (now func) (word nodes (now func) n 5 / 4096 + i) ⌝ }
+    ensures { λ x. ⌜ x ≡ word childRefs (now (func .entry)) (word nodes (now (func .entry)) n 5 / 4096 + i) 0 ⌝ }
+{
+    let at = run_at(func, NODES, n, 5, i);
+    wide(word(func, CHILD_REFS, at, 0))
+}
+
+// How many outputs node n has.
+pub fn row_outs(func: &[u32], n: usize) -> usize
+    requires { ⌜ Within nodes (now func) n ⌝ }
+    ensures { λ x. ⌜ x ≡ word nodes (now (func .entry)) n 6 % 4096 ⌝ }
+{
+    run_count(func, NODES, n, 6)
+}
+
+// The type id of op o's result, 0 without one.
+pub fn row_type(func: &[u32], o: usize) -> u32
+    requires { ⌜ Within ops (now func) o ⌝ }
+    ensures { λ x. ⌜ x ≡ word ops (now (func .entry)) o 1 ⌝ }
+{
+    word(func, OPS, o, 1)
+}

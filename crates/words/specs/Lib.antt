@@ -1,0 +1,3 @@
+-- What crates that keep tables in a slice of words cite.
+pub mod Part
+pub mod Tab
