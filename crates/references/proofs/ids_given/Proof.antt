@@ -1,0 +1,26 @@
+-- `references::ids_given` meets its contract: its calls, one after the other, are the test. Assumes nothing.
+use borrow.Author.Needs.{needs}
+use Rattle.references.specs.Test.{idsTest}
+use Rattle.references.proofs.ids_given.Statement.{statement}
+use Rattle.references.proofs.ids_given.Tie as tie
+
+returns : tie.Need-returns
+unfolding idsTest
+returns c = cc
+
+pub ids-given-spec : {M : Type 1} → statement M
+ids-given-spec =
+    tie.close
+    (tie.spec
+    (λ c. search needs)
+    (λ c. search needs)
+    (λ c κs. search needs)
+    (λ c κs. search needs)
+    (λ c κs. search needs)
+    (λ c κs. search needs)
+    (λ c κs. search needs)
+    (λ c κs. search needs)
+    (λ c κs. search needs)
+    (λ c κs. search needs)
+    (λ c κs. search needs)
+    returns)

@@ -1,0 +1,15 @@
+-- `references::rules::callee_given` meets its contract. Assumes nothing.
+use borrow.Author.Needs.{needs}
+use Rattle.references.proofs.Laws.{callee-rest}
+use Rattle.references.proofs.rules.callee_given.Statement.{statement}
+use Rattle.references.proofs.rules.callee_given.Tie as tie
+
+returns-2 : tie.Need-returns-2
+returns-2 c = callee-rest (c .before .args .kind) (c .before .args .a) (c .match .rest .1)
+
+pub callee-given-spec : {M : Type 1} → statement M
+callee-given-spec =
+    tie.close
+    (tie.spec
+    (λ c. search needs)
+    returns-2)
