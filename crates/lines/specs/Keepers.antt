@@ -1,0 +1,108 @@
+-- What each part of a line stores, and a line's row behind its lists, by the heads that the code goes by. Assumes nothing.
+--     keepRegionLists, keepInstValues, ..     the lists of a line, in the order in which the text has them
+--     region-row, block-row, ..               what a line stores is its lists and then its row
+use mathlib.Core.Path.{_≡_, refl, ap, _∙_}
+use mathlib.Core.List.{List, append-nil}
+use mathlib.Core.Option.{some}
+use Prim.Native.Nat.{ℕ}
+use Rattle.lifting.specs.Ast
+use Rattle.lifting.specs.Ast.{Value, Imm, Decl, Node, block, call, ext, boolCond}
+use Rattle.lifting.specs.Codec.{seq}
+use Rattle.lifting.specs.Grammar.{imms, values}
+use Rattle.lifting.specs.Parts.{childrenOf, outsOf, nodeValues, nodeInsts, opInsts, blockOps}
+use Rattle.cursor.specs.declared.Selection.{Selection}
+use Rattle.cursor.specs.declared.Selection.the-variants as sel
+use Rattle.cursor.specs.declared.OpKind.{OpKind}
+use Rattle.cursor.specs.declared.OpKind.the-variants as op
+use Rattle.func.specs.declared.OpKind.{OpKind as KeptKind}
+use Rattle.func.specs.declared.OpKind.the-variants as kept
+use Rattle.func.specs.Store.{folds}
+use Rattle.func.specs.Keep.{immsOf, keepHead, keepDecl, keepValue, keepImm, keepNodeRef, keepOpRef, keepChild, keepRegion, keepNode, keepOp}
+use Rattle.func.specs.Rows.{marksOf, regionRow, nodeRow, opRow, keepRegion-is, keepNode-is, keepOp-is}
+use Rattle.lines.specs.Stores.{Stores, up-row}
+use Rattle.lines.specs.Tails.{toRegion, toLoop, toExit, ended, instValues, selectLists, toSelect, toSelectInst, selectRest, toOp, toOpInst, opRest}
+
+abbrev pub keepFuncLine : ℕ × (ℕ × (ℕ × ℕ)) → List ℕ → List ℕ
+keepFuncLine x w = keepHead (x .0) (x .1 .0) (x .1 .1 .0) (x .1 .1 .1) w
+
+abbrev pub keepRegionRest : List ℕ × List Value → List ℕ → List ℕ
+keepRegionRest x w = folds keepValue (x .1) (folds keepNodeRef (x .0) w)
+
+abbrev pub keepRegionLists : List Decl × (List ℕ × List Value) → List ℕ → List ℕ
+keepRegionLists x w = keepRegionRest (x .1) (folds keepDecl (x .0) w)
+
+abbrev pub keepInstValues : List Imm × List Value → List ℕ → List ℕ
+keepInstValues x w = folds keepValue (x .1) (folds keepImm (x .0) w)
+
+abbrev pub keepLoopLists : Value × List Value → List ℕ → List ℕ
+keepLoopLists x w = folds keepValue (x .1) (keepValue (x .0) w)
+
+abbrev pub keepSelectRest : List ℕ × List Decl → List ℕ → List ℕ
+keepSelectRest x w = folds keepDecl (x .1) (folds keepChild (x .0) w)
+
+abbrev pub keepSelectLists : Value × (List ℕ × List Decl) → List ℕ → List ℕ
+keepSelectLists x w = keepSelectRest (x .1) (keepValue (x .0) w)
+
+-- the lists of any node, and of any op
+abbrev pub keepNodeLists : Node → List ℕ → List ℕ
+keepNodeLists n w =
+    folds keepDecl (outsOf n) (folds keepChild (childrenOf n) (folds keepOpRef (blockOps n) (folds keepValue (nodeValues n) (folds keepImm (immsOf (nodeInsts n)) w))))
+
+abbrev pub keepOpLists : Ast.Op → List ℕ → List ℕ
+keepOpLists o w = folds keepValue (o .operands) (folds keepImm (immsOf (opInsts (o .kind))) w)
+
+-- the rows
+pub region-row : (w : List ℕ) (x : List Decl × (List ℕ × List Value)) → keepRegion (toRegion x) w ≡ regionRow (marksOf w) (keepRegionLists x w)
+region-row w x = keepRegion-is (toRegion x) w
+
+pub block-row : (w is : List ℕ) → keepNode (block is) w ≡ nodeRow (marksOf w) 0 0 (folds keepOpRef is w)
+unfolding folds
+block-row w is = keepNode-is (block is) w
+
+pub loop-row : (w : List ℕ) (r : ℕ) (x : Value × List Value) → keepNode (toLoop (r, x)) w ≡ nodeRow (marksOf w) 3 0 (keepChild r (keepLoopLists x w))
+unfolding folds
+loop-row w r x = keepNode-is (toLoop (r, x)) w
+
+pub exit-row : (w : List ℕ) (n : ℕ) (x : List Imm × List Value) → keepNode (toExit (n, x)) w ≡ nodeRow (marksOf w) 4 n (keepInstValues x w)
+unfolding folds
+exit-row w n x =
+    keepNode-is (toExit (n, x)) w ∙ ap (λ (is : List Imm). nodeRow (marksOf w) 4 n (folds keepValue (x .1) (folds keepImm is w))) (append-nil (x .0))
+
+-- the row of a select goes by its kind
+abbrev pub selectNumber : Selection → ℕ
+selectNumber sel.Bool = 1
+selectNumber (sel.Inst n) = 2
+
+abbrev pub selectOpcode : Selection → ℕ
+selectOpcode sel.Bool = 0
+selectOpcode (sel.Inst n) = n
+
+pub select-bool : (w : List ℕ) (x : Value × (List ℕ × List Decl)) → keepNodeLists (toSelect boolCond x) w ≡ keepSelectLists x w
+unfolding folds
+select-bool w x = refl
+
+pub select-inst : (w : List ℕ) (n : ℕ) (is : List Imm) (x : Value × (List ℕ × List Decl))
+    → keepNodeLists (toSelectInst n (is, x)) w ≡ keepSelectLists x (folds keepImm is w)
+unfolding folds
+select-inst w n is x = ap (λ (is : List Imm). keepSelectLists x (folds keepImm is w)) (append-nil is)
+
+pub select-row : (k : Selection) {text : List ℕ} {at next : ℕ} {w u v : List ℕ} → Stores (selectRest k) keepNodeLists text at (some (tt, next)) w u
+    → v ≡ nodeRow (marksOf w) (selectNumber k) (selectOpcode k) u → Stores (selectRest k) keepNode text at (some (tt, next)) w v
+select-row sel.Bool {w = w} s e = up-row (selectLists .read) (toSelect boolCond) (nodeRow (marksOf w) 1 0) (λ x. keepNode-is (toSelect boolCond x) w) s e
+select-row (sel.Inst n) {w = w} s e =
+    up-row (seq imms selectLists .read) (toSelectInst n) (nodeRow (marksOf w) 2 n) (λ x. keepNode-is (toSelectInst n x) w) s e
+
+-- the row of an op goes by its head
+abbrev pub kindOf : OpKind → KeptKind
+kindOf (op.Inst n) = kept.Inst n
+kindOf (op.Call n) = kept.Call n
+kindOf (op.Ext m n) = kept.Ext m n
+
+pub op-inst : (w : List ℕ) (a t n : ℕ) (x : List Imm × List Value) → keepOpLists (toOpInst a t n x) w ≡ keepInstValues x w
+op-inst w a t n x = ap (λ (is : List Imm). folds keepValue (x .1) (folds keepImm is w)) (append-nil (x .0))
+
+pub op-row : (a t : ℕ) (k : OpKind) {text : List ℕ} {at next : ℕ} {w u v : List ℕ} → Stores (opRest a t k) keepOpLists text at (some (tt, next)) w u
+    → v ≡ opRow (marksOf w) a t (kindOf k) u → Stores (opRest a t k) keepOp text at (some (tt, next)) w v
+op-row a t (op.Inst n) {w = w} s e = up-row (instValues .read) (toOpInst a t n) (opRow (marksOf w) a t (kept.Inst n)) (λ x. keepOp-is (toOpInst a t n x) w) s e
+op-row a t (op.Call n) {w = w} s e = up-row (ended values .read) (toOp a t (call n)) (opRow (marksOf w) a t (kept.Call n)) (λ x. keepOp-is (toOp a t (call n) x) w) s e
+op-row a t (op.Ext m n) {w = w} s e = up-row (ended values .read) (toOp a t (ext m n)) (opRow (marksOf w) a t (kept.Ext m n)) (λ x. keepOp-is (toOp a t (ext m n) x) w) s e
