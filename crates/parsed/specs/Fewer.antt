@@ -1,15 +1,20 @@
 -- A list in which nothing stands twice is no longer than any list that holds all of it. Assumes nothing.
 --     fewer           of any two such lists
 --     fewer-below     of numbers below n
+--     fits            the same, by the tests of a list
 use mathlib.Core.Path.{_≡_, refl, sym, subst}
+use mathlib.Core.Bool.{true}
 use mathlib.Core.List.{List, [], _∷_}
 use mathlib.Core.Logic.{_⊎_, inl, inr}
 use Prim.Native.Nat.{ℕ, suc, _≤_, _<_}
 use native.Mathlib.Decide.{ℕ-discrete}
 use native.Mathlib.Omega.{arith}
+use lib.Dec.{ltb}
 use lib.ListN.{length}
-use Rattle.lifting.specs.Lists.{choose, below}
+use borrow.Author.Tests.{ltb-true}
+use Rattle.lifting.specs.Lists.{choose, below, every, distinct}
 use Rattle.runs.specs.Members.{In, here, there, in-nil, in-cases, in-tabulate, length-tabulate, All, all-in, NoDup}
+use Rattle.runs.specs.Tests.{distinct-once, every-all}
 
 -- the list without the first x
 unfoldable pub less : ℕ → List ℕ → List ℕ
@@ -49,3 +54,6 @@ fewer-below n l u h =
     let low : (x : ℕ) → In x l → x < n = all-in (λ x. x < n) l h in
     let r = fewer l (below n) u (λ x i. let b = low x i in in-tabulate (λ j. j) 0 n x (omega arith) (omega arith)) in
     omega (arith, length-tabulate (λ i. i) 0 n)
+
+pub fits : (n : ℕ) (l : List ℕ) → every (λ x. ltb x n) l ≡ true → distinct l ≡ true → length l ≤ n
+fits n l b d = fewer-below n l (distinct-once l d) (every-all (λ x. ltb x n) (λ x. x < n) (λ x t. ltb-true x n t) l b)
