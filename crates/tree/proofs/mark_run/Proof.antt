@@ -1,0 +1,79 @@
+-- `tree::mark_run` meets its contract: after i turns the numbers from the i-th on are left to be marked. Assumes nothing.
+use mathlib.Core.Path.{_≡_, refl, sym, ap, _∙_}
+use Prim.Native.Nat.{_≤_, _<_, _+_, _-_}
+use native.Mathlib.Omega.{arith}
+use lib.ListN.{length, length-set}
+use borrow.Author.Needs.{needs}
+use Rattle.func.specs.Layout.{entry-room, inside}
+use Rattle.func.specs.Tables.{Within}
+use Rattle.tree.specs.Test.{numbers}
+use Rattle.tree.specs.Marks.{mark, mark-turn, mark-done, numbers-first, numbers-done}
+use Rattle.tree.proofs.mark_run.Statement.{statement}
+use Rattle.tree.proofs.mark_run.Tie as tie
+
+abbrev Inv-loop : tie.InvT-loop
+Inv-loop func k at n v work₀ i₀ work i = (i ≤ n) × (length work ≡ length work₀) × (mark (numbers k func at n) v work₀ ≡ mark (numbers k func (at + i) (n - i)) v work)
+
+abbrev μ-loop : tie.MeasureT-loop
+μ-loop func k at n v work₀ i₀ work i = n - i
+
+loop-holds : tie.Need-loop-holds Inv-loop μ-loop
+loop-holds c = let a = c .before .before .args in (omega arith, refl, ap (λ l. mark l (a .v) (a .work .now)) (numbers-first (a .k) (a .func .now) (a .at) (a .at + 0) (a .n) (omega arith)))
+
+-- entry at + i may be read, and names a word
+reads-in : (c : tie.In-loop Inv-loop μ-loop) → Within (c .before .before .before .before .args .k) (c .before .before .before .before .args .func .now) (c .before .before .before .before .args .at + c .before .loop .i)
+reads-in c = c .before .before .before .before .pre .read _ (omega arith) (omega arith)
+
+low : (c : tie.After-wide Inv-loop μ-loop) → c .wide .result < length (c .before .before .before .loop .work)
+low c =
+    let s = c .before .before .before .before .before .before in
+    omega (arith, c .wide .ensures, c .before .word .ensures, s .pre .low (s .args .at + c .before .before .before .loop .i) (omega arith) (omega arith))
+
+add-word : tie.Need-add-word Inv-loop μ-loop
+add-word c = let s = c .before .before .before .before in omega (arith, reads-in c .below, reads-in c .fits, entry-room (s .args .k), inside (s .args .k) (reads-in c .pool) .room)
+
+word-requires : tie.Need-word-requires Inv-loop μ-loop
+word-requires c κs = (reads-in c, c .before .before .before .before .pre .first)
+
+mul-work : tie.Need-mul-work Inv-loop μ-loop
+mul-work c = omega (arith, low c)
+
+slice-write-work : tie.Need-slice-write-work Inv-loop μ-loop
+slice-write-work c = low c
+
+loop-again : tie.Need-loop-again Inv-loop μ-loop
+loop-again c =
+    let l = c .before .before .before .loop in
+    let a = c .before .before .before .before .before .before .args in (
+      omega arith,
+      simp length-set (l .inv .1),
+      l .inv .2
+          ∙ mark-turn (a .k) (a .func .now) (a .at + l .i) (a .at + (l .i + 1)) (l .i) (a .n) (c .wide .result) (l .work) (omega arith) (omega arith) (c .wide .ensures ∙ c .before .word .ensures) (a .v),
+    )
+
+same-length : tie.Need-same-length Inv-loop μ-loop
+same-length c = c .before .loop .inv .1
+
+returns : tie.Need-returns Inv-loop μ-loop
+returns c =
+    let l = c .before .loop in
+    let a = c .before .before .before .before .args in
+    (sym (l .inv .2 ∙ ap (λ z. mark z (a .v) (l .work)) (numbers-done (a .k) (a .func .now) (a .at + l .i) (l .i) (a .n) (omega arith)) ∙ mark-done (a .v) (l .work)), l .inv .1)
+
+pub mark-run-spec : {M : Type 1} → statement M
+mark-run-spec =
+    tie.close
+    (tie.spec
+    Inv-loop
+    μ-loop
+    loop-holds
+    add-word
+    word-requires
+    (λ c κs. search needs)
+    mul-work
+    slice-write-work
+    (λ c. search needs)
+    (λ c. search needs)
+    loop-again
+    same-length
+    returns)

@@ -1,0 +1,62 @@
+-- `tree::no_cycle` meets its contract: the table holds the parents. Assumes nothing.
+use mathlib.Core.Path.{ap, _∙_}
+use Prim.Native.Nat.{_≤_}
+use native.Mathlib.Omega.{arith}
+use lib.ListN.{length}
+use lib.Dec.{lit<}
+use borrow.Author.Needs.{needs}
+use Rattle.func.specs.Store.{count}
+use Rattle.tree.specs.Test.{parentIn, acyclic}
+use Rattle.tree.proofs.Laws.{table-low, table-acyclic}
+use Rattle.tree.proofs.no_cycle.Statement.{statement}
+use Rattle.tree.proofs.no_cycle.Tie as tie
+
+count-requires : tie.Need-count-requires
+count-requires c κs = (c .before .before .pre .0 .safe .size, lit< tt)
+
+-- the table fits
+room : (c : tie.After-clear-marks-arg) → c .before .wide .result ≤ length (c .before .before .before .before .before .args .work .now)
+room c = let s = c .before .before .before .before .before in omega (arith, c .before .wide .ensures, c .before .before .count .ensures, s .pre .0 .safe .region-room, s .pre .1)
+
+clear-marks-requires : tie.Need-clear-marks-requires
+clear-marks-requires c κs = room c
+
+adopt-all-requires : tie.Need-adopt-all-requires
+adopt-all-requires c κs = let s = c .before .before .before .before .before .before .before .before .before in (s .pre .0, (c .before .before .before .before .before .wide .ensures ∙ c .before .before .before .before .before .before .count .ensures, omega (arith, s .pre .1, c .before .before .before .clear-marks .ensures .1)))
+
+none-around-requires : tie.Need-none-around-requires
+none-around-requires c κs =
+    let t = c .before .before .before .adopt-all in
+    let z = c .before .before .before .before .before .before .before .clear-marks in
+    let h = room (c .before .before .before .before .before .before .before .before) in (
+      omega (arith, t .ensures .1, z .ensures .1),
+      table-low (c .before .before .before .before .before .before .before .before .before .before .before .before .before .args .func .now) (c .before .before .before .before .before .before .before .before .before .wide .result) (z .last .0) (t .last .1 .1 .0) (omega (arith, z .ensures .1)) (z .ensures .0) (t .ensures .0),
+    )
+
+same-length : tie.Need-same-length
+same-length c = c .before .before .before .before .adopt-all .ensures .1 ∙ c .before .before .before .before .before .before .before .before .clear-marks .ensures .1
+
+returns : tie.Need-returns
+returns c =
+    let w = c .before .before .before .before .before .before .before .before .before .before .before .before .before .before .args .func .now in
+    let t = c .before .before .before .before .adopt-all in
+    let z = c .before .before .before .before .before .before .before .before .clear-marks in
+    let n = c .before .before .before .before .before .before .before .before .before .before .wide in
+    let h = room (c .before .before .before .before .before .before .before .before .before) in (
+      c .none-around .ensures
+          ∙ table-acyclic w (n .result) (z .last .0) (t .last .1 .1 .0) (omega (arith, z .ensures .1)) (z .ensures .0) (t .ensures .0)
+          ∙ ap (λ n. acyclic (parentIn w n) n) (n .ensures ∙ c .before .before .before .before .before .before .before .before .before .before .before .count .ensures),
+      t .ensures .1 ∙ z .ensures .1,
+    )
+
+pub no-cycle-spec : {M : Type 1} → statement M
+no-cycle-spec =
+    tie.close
+    (tie.spec
+    count-requires
+    (λ c κs. search needs)
+    clear-marks-requires
+    adopt-all-requires
+    none-around-requires
+    same-length
+    returns)

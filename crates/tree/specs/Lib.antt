@@ -1,0 +1,6 @@
+-- Refusal 5, judged by the words of the function slice.
+pub mod Once
+pub mod Test
+pub mod Marks
+pub mod Fit
+pub mod Same

@@ -1,0 +1,253 @@
+// Refusal 5: whether the regions, nodes and ops of the function slice form a tree. Counts are compared first, since a pool of references that
+// is over its room cannot pass; then marks in the work slice tell whether a reference stands twice, and a table of parents whether a region
+// lies around itself.
+use func::CHILD_REFS;
+use func::CTRLS;
+use func::NODE_REFS;
+use func::NODES;
+use func::OP_REFS;
+use func::OPS;
+use func::REGIONS;
+use func::count;
+use func::pools::run_at;
+use func::pools::wide;
+use func::pools::word;
+use func::rows::row_child;
+use func::rows::row_children;
+use func::rows::row_node;
+use func::rows::row_nodes;
+ghost use mathlib.Core.Path.{_≡_};
+ghost use Prim.Native.Nat.{ℕ, _+_, _≤_, _<_};
+ghost use lib.ListN.{length, getD};
+ghost use Rattle.lifting.specs.Limits.{scratchWords};
+ghost use Rattle.func.specs.Layout.{poolTotal, entryWords, entryRoom, regions, childRefs};
+ghost use Rattle.func.specs.Store.{count};
+ghost use Rattle.tree.specs.Test.{numbers, refs, kids, climbs, acyclic, cycleTest, onceTest, childFit, childTest, treeTest, Refs, TreeSafe, Whole};
+ghost use Rattle.tree.specs.Marks.{Run, Clear, fresh, mark, table};
+
+// The first n words are 0.
+fn clear_marks(work: &mut [u32], n: usize)
+    requires { ⌜ n ≤ length (now work) ⌝ }
+    ensures { λ _. ⌜ Clear n (now (work .exit)) ⌝ }
+    ensures { λ _. ⌜ length (now (work .exit)) ≡ length (now (work .entry)) ⌝ }
+{
+    let mut i = 0;
+    while i < n {
+        work[i] = 0;
+        i += 1;
+    }
+}
+
+// Each word that one of n numbers of pool k names, from entry `at` on, is v.
+fn mark_run(func: &[u32], k: usize, at: usize, n: usize, v: u32, work: &mut [u32])
+    requires { ⌜ Run k (now func) at n (length (now work)) ⌝ }
+    ensures { λ _. ⌜ now (work .exit) ≡ mark (numbers k (now (func .entry)) at n) v (now (work .entry)) ⌝ }
+    ensures { λ _. ⌜ length (now (work .exit)) ≡ length (now (work .entry)) ⌝ }
+{
+    let mut i = 0;
+    while i < n {
+        let x = wide(word(func, k, at + i, 0));
+        work[x] = v;
+        i += 1;
+    }
+}
+
+// None of the first n numbers of pool k stands twice or names a marked word. Their words are marked.
+fn all_fresh(func: &[u32], k: usize, n: usize, work: &mut [u32]) -> bool
+    requires { ⌜ Run k (now func) 0 n (length (now work)) ⌝ }
+    ensures { λ r. ⌜ r ≡ fresh (numbers k (now (func .entry)) 0 n) (now (work .entry)) ⌝ }
+    ensures { λ _. ⌜ length (now (work .exit)) ≡ length (now (work .entry)) ⌝ }
+{
+    let mut i = 0;
+    while i < n {
+        let x = wide(word(func, k, i, 0));
+        if work[x] == 1 {
+            return false;
+        }
+        work[x] = 1;
+        i += 1;
+    }
+    true
+}
+
+// Each line of pool p stands once in pool k.
+fn stands_once(func: &[u32], k: usize, p: usize, work: &mut [u32]) -> bool
+    requires { ⌜ (scratchWords ≤ length (now func)) × (scratchWords ≤ length (now work)) ⌝ }
+    requires { ⌜ (k < poolTotal) × (p < poolTotal) × (0 < entryWords k) × Refs k p (now func) ⌝ }
+    ensures { λ r. ⌜ r ≡ onceTest k p (now (func .entry)) ⌝ }
+    ensures { λ _. ⌜ length (now (work .exit)) ≡ length (now (work .entry)) ⌝ }
+{
+    let n = count(func, p);
+    if count(func, k) != n {
+        return false;
+    }
+    clear_marks(work, wide(n));
+    all_fresh(func, k, wide(n), work)
+}
+
+// Goes through the nodes and their child regions, up to the first region that has a parent already: its word is marked.
+fn one_parent(func: &[u32], work: &mut [u32]) -> bool
+    requires { ⌜ TreeSafe (now func) ⌝ }
+    requires { ⌜ (count childRefs (now func) ≤ entryRoom childRefs) × (scratchWords ≤ length (now work)) ⌝ }
+    ensures { λ r. ⌜ r ≡ fresh (refs childRefs (now (func .entry))) (now (work .entry)) ⌝ }
+    ensures { λ _. ⌜ length (now (work .exit)) ≡ length (now (work .entry)) ⌝ }
+{
+    let total = wide(count(func, NODES));
+    let mut once = true;
+    let mut n: usize = 0;
+    'nodes: while n < total {
+        let m = row_children(func, n);
+        let mut i: usize = 0;
+        'children: while i < m {
+            let c = row_child(func, n, i);
+            if work[c] == 1 {
+                once = false;
+                break 'nodes;
+            }
+            work[c] = 1;
+            i += 1;
+        }
+        n += 1;
+    }
+    once
+}
+
+// Of n regions c can be children, where there are k ctrl lines.
+fn child_fit(n: u32, c: u32, k: u32) -> bool
+    requires { ⌜ c < 4294967295 ⌝ }
+    ensures { λ r. ⌜ r ≡ childFit n c k ⌝ }
+{
+    if n == 0 {
+        return c == 0;
+    }
+    if k == 0 {
+        return c + 1 == n;
+    }
+    c < n
+}
+
+// No region is child of two places, and the first of none; without ctrl lines each other one is a child.
+fn children_once(func: &[u32], work: &mut [u32]) -> bool
+    requires { ⌜ TreeSafe (now func) ⌝ }
+    requires { ⌜ scratchWords ≤ length (now work) ⌝ }
+    ensures { λ r. ⌜ r ≡ childTest (now (func .entry)) ⌝ }
+    ensures { λ _. ⌜ length (now (work .exit)) ≡ length (now (work .entry)) ⌝ }
+{
+    let n = count(func, REGIONS);
+    let c = count(func, CHILD_REFS);
+    if n < c {
+        return false;
+    }
+    if !child_fit(n, c, count(func, CTRLS)) {
+        return false;
+    }
+    clear_marks(work, wide(n));
+    work[0] = 1;
+    one_parent(func, work)
+}
+
+// Region r is the parent of its nodes' children: their words are r + 1.
+fn adopt(func: &[u32], r: usize, work: &mut [u32])
+    requires { ⌜ Whole (now func) ⌝ }
+    requires { ⌜ (r < count regions (now func)) × (scratchWords ≤ length (now work)) ⌝ }
+    ensures { λ _. ⌜ now (work .exit) ≡ mark (kids (now (func .entry)) r) (r + 1) (now (work .entry)) ⌝ }
+    ensures { λ _. ⌜ length (now (work .exit)) ≡ length (now (work .entry)) ⌝ }
+{
+    let v = (r + 1) as u32;
+    let n = row_nodes(func, r);
+    let mut i = 0;
+    while i < n {
+        let x = row_node(func, r, i);
+        mark_run(
+            func,
+            CHILD_REFS,
+            run_at(func, NODES, x, 5, 0),
+            row_children(func, x),
+            v,
+            work,
+        );
+        i += 1;
+    }
+}
+
+// The table of parents, where the work slice was clear.
+fn adopt_all(func: &[u32], n: usize, work: &mut [u32])
+    requires { ⌜ Whole (now func) ⌝ }
+    requires { ⌜ (n ≡ count regions (now func)) × (scratchWords ≤ length (now work)) ⌝ }
+    ensures { λ _. ⌜ now (work .exit) ≡ table (now (func .entry)) n (now (work .entry)) ⌝ }
+    ensures { λ _. ⌜ length (now (work .exit)) ≡ length (now (work .entry)) ⌝ }
+{
+    let mut r = 0;
+    while r < n {
+        adopt(func, r, work);
+        r += 1;
+    }
+}
+
+// Region r comes again within n steps outward from it.
+fn climbs_back(parents: &[u32], r: usize, n: usize) -> bool
+    requires { ⌜ (r < n) × (n ≤ length (now parents)) × ((c : ℕ) → c < n → getD (now parents) c 0 ≤ n) ⌝ }
+    ensures { λ x. ⌜ x ≡ climbs (λ c. getD (now (parents .entry)) c 0) r n r ⌝ }
+{
+    let mut at = r;
+    let mut left = n;
+    while 0 < left {
+        let p = wide(parents[at]);
+        if p == 0 {
+            return false;
+        }
+        at = p - 1;
+        if at == r {
+            return true;
+        }
+        left -= 1;
+    }
+    false
+}
+
+// No region lies around itself.
+fn none_around(parents: &[u32], n: usize) -> bool
+    requires { ⌜ (n ≤ length (now parents)) × ((c : ℕ) → c < n → getD (now parents) c 0 ≤ n) ⌝ }
+    ensures { λ x. ⌜ x ≡ acyclic (λ c. getD (now (parents .entry)) c 0) n ⌝ }
+{
+    let mut r = 0;
+    while r < n {
+        if climbs_back(parents, r, n) {
+            return false;
+        }
+        r += 1;
+    }
+    true
+}
+
+// The same, of the regions in the function slice.
+fn no_cycle(func: &[u32], work: &mut [u32]) -> bool
+    requires { ⌜ Whole (now func) ⌝ }
+    requires { ⌜ scratchWords ≤ length (now work) ⌝ }
+    ensures { λ r. ⌜ r ≡ cycleTest (now (func .entry)) ⌝ }
+    ensures { λ _. ⌜ length (now (work .exit)) ≡ length (now (work .entry)) ⌝ }
+{
+    let n = wide(count(func, REGIONS));
+    clear_marks(work, n);
+    adopt_all(func, n, work);
+    none_around(work, n)
+}
+
+// The text in the function slice passes refusal 5.
+pub fn is_tree(func: &[u32], work: &mut [u32]) -> bool
+    requires { ⌜ TreeSafe (now func) ⌝ }
+    requires { ⌜ scratchWords ≤ length (now work) ⌝ }
+    ensures { λ r. ⌜ r ≡ treeTest (now (func .entry)) ⌝ }
+    ensures { λ _. ⌜ length (now (work .exit)) ≡ length (now (work .entry)) ⌝ }
+{
+    if !stands_once(func, NODE_REFS, NODES, work) {
+        return false;
+    }
+    if !stands_once(func, OP_REFS, OPS, work) {
+        return false;
+    }
+    if !children_once(func, work) {
+        return false;
+    }
+    no_cycle(func, work)
+}
