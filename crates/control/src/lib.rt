@@ -1,0 +1,298 @@
+// Refusal 7: whether the ctrl lines of the function slice fit. Lines, targets and entries are few, so each is compared with the others of its
+// list; the roots come from the walk.
+pub mod walk;
+
+use crate::walk::reached;
+use func::CtrlKind;
+use func::look::ctrl_in_count;
+use func::look::ctrl_kind;
+use func::look::ctrl_region;
+use func::look::ctrl_total;
+use func::look::entry_count;
+use func::look::entry_region;
+use func::look::node_child;
+use func::look::node_child_count;
+use func::look::node_total;
+use func::look::target;
+use func::look::target_count;
+use func::pools::wide;
+ghost use mathlib.Core.Path.{_≡_};
+ghost use Prim.Native.Nat.{_≤_, _<_};
+ghost use lib.ListN.{length, drop};
+ghost use Rattle.lifting.specs.Limits.{scratchWords};
+ghost use Rattle.lifting.specs.Lists.{every, within, distinct, keys};
+ghost use Rattle.lifting.specs.Parts.{nodeOf, childrenOf};
+ghost use Rattle.lifting.specs.Control.{isRoot, ctrlFits, controlFits};
+ghost use Rattle.func.specs.Decode.{funcOf};
+ghost use Rattle.func.specs.Tables.{Tables, ctrlLine};
+ghost use Rattle.control.specs.Walk.{Named, listed};
+ghost use Rattle.control.specs.Loops.{targetFits, lineFits, kindTest};
+
+// Region r is a child of node n.
+fn has_child(func: &[u32], n: usize, r: usize) -> bool
+    requires { ⌜ Tables (now func) ⌝ }
+    requires { ⌜ n < length (funcOf (now func) .nodes) ⌝ }
+    ensures { λ x. ⌜ x ≡ within r (childrenOf (nodeOf (funcOf (now (func .entry))) n)) ⌝ }
+{
+    let k = node_child_count(func, n);
+    let mut i = 0;
+    while i < k {
+        if node_child(func, n, i) == r {
+            return true;
+        }
+        i += 1;
+    }
+    false
+}
+
+// Region r is no child.
+fn is_root(func: &[u32], r: usize) -> bool
+    requires { ⌜ Tables (now func) ⌝ }
+    ensures { λ x. ⌜ x ≡ isRoot (funcOf (now (func .entry))) r ⌝ }
+{
+    let k = node_total(func);
+    let mut i = 0;
+    while i < k {
+        if has_child(func, i, r) {
+            return false;
+        }
+        i += 1;
+    }
+    true
+}
+
+// A ctrl line from line s on is region r's.
+fn key_after(func: &[u32], s: usize, r: usize) -> bool
+    requires { ⌜ Tables (now func) ⌝ }
+    ensures { λ x. ⌜ x ≡ within r (keys (drop s (funcOf (now (func .entry)) .ctrls))) ⌝ }
+{
+    let k = ctrl_total(func);
+    let mut i = s;
+    while i < k {
+        if ctrl_region(func, i) == r {
+            return true;
+        }
+        i += 1;
+    }
+    false
+}
+
+// No region has two ctrl lines.
+fn keys_distinct(func: &[u32]) -> bool
+    requires { ⌜ Tables (now func) ⌝ }
+    ensures { λ x. ⌜ x ≡ distinct (keys (funcOf (now (func .entry)) .ctrls)) ⌝ }
+{
+    let k = ctrl_total(func);
+    let mut i = 0;
+    while i < k {
+        let r = ctrl_region(func, i);
+        if key_after(func, i + 1, r) {
+            return false;
+        }
+        i += 1;
+    }
+    true
+}
+
+// Region r is a target of line c.
+fn is_target(func: &[u32], c: usize, r: usize) -> bool
+    requires { ⌜ Tables (now func) ⌝ }
+    requires { ⌜ c < length (funcOf (now func) .ctrls) ⌝ }
+    ensures { λ x. ⌜ x ≡ within r (ctrlLine (funcOf (now (func .entry))) c .1 .to) ⌝ }
+{
+    let k = target_count(func, c);
+    let mut i = 0;
+    while i < k {
+        if target(func, c, i) == r {
+            return true;
+        }
+        i += 1;
+    }
+    false
+}
+
+// Region r can be a target.
+fn target_fits(func: &[u32], r: usize) -> bool
+    requires { ⌜ Tables (now func) ⌝ }
+    ensures { λ x. ⌜ x ≡ targetFits (funcOf (now (func .entry))) r ⌝ }
+{
+    if r == 0 {
+        return false;
+    }
+    is_root(func, r)
+}
+
+// The targets of line c fit.
+fn targets_fit(func: &[u32], c: usize) -> bool
+    requires { ⌜ Tables (now func) ⌝ }
+    requires { ⌜ c < length (funcOf (now func) .ctrls) ⌝ }
+    ensures { λ x. ⌜ x ≡ every (targetFits (funcOf (now (func .entry)))) (ctrlLine (funcOf (now (func .entry))) c .1 .to) ⌝ }
+{
+    let k = target_count(func, c);
+    let mut i = 0;
+    while i < k {
+        let r = target(func, c, i);
+        if !target_fits(func, r) {
+            return false;
+        }
+        i += 1;
+    }
+    true
+}
+
+// An entry of line c from entry s on is region r's.
+fn entry_after(func: &[u32], c: usize, s: usize, r: usize) -> bool
+    requires { ⌜ Tables (now func) ⌝ }
+    requires { ⌜ c < length (funcOf (now func) .ctrls) ⌝ }
+    ensures { λ x. ⌜ x ≡ within r (keys (drop s (ctrlLine (funcOf (now (func .entry))) c .1 .vals))) ⌝ }
+{
+    let k = entry_count(func, c);
+    let mut i = s;
+    while i < k {
+        if entry_region(func, c, i) == r {
+            return true;
+        }
+        i += 1;
+    }
+    false
+}
+
+// No region has two entries of line c.
+fn entries_distinct(func: &[u32], c: usize) -> bool
+    requires { ⌜ Tables (now func) ⌝ }
+    requires { ⌜ c < length (funcOf (now func) .ctrls) ⌝ }
+    ensures { λ x. ⌜ x ≡ distinct (keys (ctrlLine (funcOf (now (func .entry))) c .1 .vals)) ⌝ }
+{
+    let k = entry_count(func, c);
+    let mut i = 0;
+    while i < k {
+        let r = entry_region(func, c, i);
+        if entry_after(func, c, i + 1, r) {
+            return false;
+        }
+        i += 1;
+    }
+    true
+}
+
+// The entries of line c are its targets'.
+fn entries_fit(func: &[u32], c: usize) -> bool
+    requires { ⌜ Tables (now func) ⌝ }
+    requires { ⌜ c < length (funcOf (now func) .ctrls) ⌝ }
+    ensures { λ x. ⌜ x ≡ every (λ r. within r (ctrlLine (funcOf (now (func .entry))) c .1 .to)) (keys (ctrlLine (funcOf (now (func .entry))) c .1 .vals)) ⌝ }
+{
+    let k = entry_count(func, c);
+    let mut i = 0;
+    while i < k {
+        let r = entry_region(func, c, i);
+        if !is_target(func, c, r) {
+            return false;
+        }
+        i += 1;
+    }
+    true
+}
+
+// A line of a kind can have so many inputs and targets.
+fn kind_fits(kind: CtrlKind, ins: usize, to: usize) -> bool
+    ensures { λ x. ⌜ x ≡ kindTest kind ins to ⌝ }
+{
+    match kind {
+        CtrlKind::Unreachable => ins == 0 && to == 0,
+        CtrlKind::Return => ins <= 1 && to == 0,
+        CtrlKind::Branch => ins == 0 && to == 1,
+        CtrlKind::Bool => ins == 1 && to == 2,
+        CtrlKind::Inst => 0 < ins && 0 < to,
+        CtrlKind::Exit => to == 0,
+    }
+}
+
+// What line c says of its way out fits.
+fn ctrl_fits(func: &[u32], c: usize) -> bool
+    requires { ⌜ Tables (now func) ⌝ }
+    requires { ⌜ c < length (funcOf (now func) .ctrls) ⌝ }
+    ensures { λ x. ⌜ x ≡ ctrlFits (funcOf (now (func .entry))) (ctrlLine (funcOf (now (func .entry))) c .1) ⌝ }
+{
+    if !targets_fit(func, c) {
+        return false;
+    }
+    if !entries_distinct(func, c) {
+        return false;
+    }
+    if !entries_fit(func, c) {
+        return false;
+    }
+    kind_fits(
+        ctrl_kind(func, c),
+        ctrl_in_count(func, c),
+        target_count(func, c),
+    )
+}
+
+// Line c fits, and its region is no child.
+fn line_fits(func: &[u32], c: usize) -> bool
+    requires { ⌜ Tables (now func) ⌝ }
+    requires { ⌜ c < length (funcOf (now func) .ctrls) ⌝ }
+    ensures { λ x. ⌜ x ≡ lineFits (funcOf (now (func .entry))) (ctrlLine (funcOf (now (func .entry))) c) ⌝ }
+{
+    let r = ctrl_region(func, c);
+    if !is_root(func, r) {
+        return false;
+    }
+    ctrl_fits(func, c)
+}
+
+// Each line does.
+fn lines_fit(func: &[u32]) -> bool
+    requires { ⌜ Tables (now func) ⌝ }
+    ensures { λ x. ⌜ x ≡ every (lineFits (funcOf (now (func .entry)))) (funcOf (now (func .entry)) .ctrls) ⌝ }
+{
+    let k = ctrl_total(func);
+    let mut i = 0;
+    while i < k {
+        if !line_fits(func, i) {
+            return false;
+        }
+        i += 1;
+    }
+    true
+}
+
+// Each of the n roots before word 512 has a ctrl line.
+fn have_ctrls(func: &[u32], work: &[u32], n: usize) -> bool
+    requires { ⌜ Tables (now func) ⌝ }
+    requires { ⌜ (n ≤ 128) × (512 ≤ length (now work)) ⌝ }
+    ensures { λ x. ⌜ x ≡ every (λ r. within r (keys (funcOf (now (func .entry)) .ctrls))) (listed (now (work .entry)) n) ⌝ }
+{
+    let a = 512 - n;
+    let mut i = 0;
+    while i < n {
+        let r = wide(work[a + i]);
+        if !key_after(func, 0, r) {
+            return false;
+        }
+        i += 1;
+    }
+    true
+}
+
+// The text in the function slice passes refusal 7.
+pub fn control(func: &[u32], work: &mut [u32]) -> bool
+    requires { ⌜ Tables (now func) ⌝ }
+    requires { ⌜ (0 < length (funcOf (now func) .ctrls) → Named (funcOf (now func))) ⌝ }
+    requires { ⌜ scratchWords ≤ length (now work) ⌝ }
+    ensures { λ r. ⌜ r ≡ controlFits (funcOf (now (func .entry))) ⌝ }
+    ensures { λ _. ⌜ length (now (work .exit)) ≡ length (now (work .entry)) ⌝ }
+{
+    if !keys_distinct(func) {
+        return false;
+    }
+    if !lines_fit(func) {
+        return false;
+    }
+    if ctrl_total(func) == 0 {
+        return true;
+    }
+    let n = reached(func, work);
+    have_ctrls(func, work, n)
+}
