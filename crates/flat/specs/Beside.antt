@@ -3,7 +3,7 @@
 use mathlib.Core.Path.{_≡_, refl, sym, ap, _∙_, subst}
 use mathlib.Core.Logic.{_⊎_, inl, inr}
 use mathlib.Core.Bool.{Bool, true, false}
-use mathlib.Core.List.{List, [], _∷_, reverse, reverseAux}
+use mathlib.Core.List.{List, [], _∷_, reverse}
 use mathlib.Core.Option.{Option, none, some}
 use Prim.Native.Nat.{ℕ, zero, suc, _≤_, _<_}
 use native.Mathlib.Omega.{arith}
@@ -13,6 +13,7 @@ use Rattle.lifting.specs.Ast.{ControlInst, Func}
 use Rattle.lifting.specs.Parts.{ctrlOf}
 use Rattle.lifting.specs.Order.{Seen, roots, targetsOf, visit, visitIf, visits}
 use Rattle.lifting.specs.Walk.{top}
+use Rattle.runs.specs.Order.{out-reverse-aux}
 use Rattle.runs.specs.Members.{In, here, there, in-cases, in-nil, in-within, not-within}
 use Rattle.runs.specs.Accepted.{Targets}
 use Rattle.runs.specs.Places.{Visited, at-body, by-ctrl}
@@ -21,13 +22,6 @@ use Rattle.runs.specs.Order.{missing, missing-all, missing-less}
 abbrev pub first : List ℕ → Option ℕ
 first [] = none
 first (x ∷ l) = some x
-
-in-reverse : (x : ℕ) (l r : List ℕ) → In x (reverseAux l r) → In x l ⊎ In x r
-in-reverse x [] r h = inr h
-in-reverse x (y ∷ l) r h = elim (in-reverse x l (y ∷ r) h) [
-  | inl i ↦ inl (there i)
-  | inr i ↦ elim (in-cases i) [ inl e ↦ inl (subst (λ (z : ℕ). In z (y ∷ l)) (sym e) here) | inr j ↦ inr j ]
-]
 
 module _ (F : Func) where
   -- the ctrl line of p has the target t
@@ -96,7 +90,7 @@ module _ (F : Func) where
       targets-on : (o : Option ControlInst) → ctrlOf F r ≡ o → (t : ℕ) → In t (reverse (targetsOf o)) → (t < N) × Visited F t top × Called (r ∷ s .seen) t
       targets-on none e t h = absurd (in-nil h)
       targets-on (some c) e t h =
-          let i : In t (c .to) = elim (in-reverse t (c .to) [] h) [ inl i ↦ i | inr z ↦ absurd (in-nil z) ] in
+          let i : In t (c .to) = elim (out-reverse-aux t (c .to) [] h) [ inl i ↦ i | inr z ↦ absurd (in-nil z) ] in
           (tg .in-range r t e i, by-ctrl v e i, inr (r, here, v, (c, e, i)))
 
       fine-entered : Fine s → Fine entered

@@ -13,7 +13,7 @@ use Rattle.runs.specs.Members.{All, In, all-append, all-in, in-gather, in-getD,
 use Rattle.runs.specs.Refers.{Refers}
 use Rattle.runs.specs.Tests.{all-line}
 use Rattle.runs.specs.Each.{Each, each-kept, every-point}
-use Rattle.flat.specs.Shaped.{Shaped, depth, walk-is}
+use Rattle.runs.specs.Shaped.{Shaped, depth, walk-is}
 
 module _ (F : Func) (refs : Refers F) where
   abbrev Below : ℕ → Type 0

@@ -11,7 +11,7 @@ use Rattle.lifting.specs.Points.{BlockLifting, CfgPoint, Terminator, nodeEntry,
 use Rattle.lifting.specs.Walk.{inBlock, walkOf}
 use Rattle.flat.specs.Flat.{noPair}
 use Rattle.flat.specs.Chain.{chain-at, chain-map, next-at}
-use Rattle.flat.specs.Shaped.{Shaped}
+use Rattle.runs.specs.Shaped.{Shaped}
 use Rattle.flat.specs.Steps.{Step, step-entry, step-exit, step-in, step-out, walk-steps}
 
 abbrev pub isBlock : Node → Bool

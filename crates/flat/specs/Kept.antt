@@ -2,7 +2,6 @@
 -- Assumes nothing.
 use mathlib.Core.Path.{_≡_, refl, sym, ap, _∙_, subst}
 use mathlib.Core.Logic.{inl, inr}
-use mathlib.Core.Bool.{true}
 use mathlib.Core.List.{List, [], _∷_}
 use mathlib.Core.Option.{Option, some}
 use Prim.Native.Nat.{_<_}
@@ -14,7 +13,6 @@ use Rattle.lifting.specs.Parts.{valsOr}
 use Rattle.lifting.specs.Points.{BlockLifting, CfgPoint, Table, blockOr, edgeOf, eqPoint, points}
 use Rattle.lifting.specs.Walk.{walkOf}
 use Rattle.lifting.specs.Absorb.{absorb, kept, labels, useCount}
-use Rattle.lifting.specs.World.{World}
 use Rattle.runs.specs.Members.{All, In, all-from, all-in, in-cases, in-nil}
 use Rattle.runs.specs.AbsorbCount.{in-count}
 use Rattle.runs.specs.AbsorbAll.{Kept, absorb-kept, find-keep}
@@ -23,7 +21,8 @@ use Rattle.runs.specs.Each.{each-absorbed}
 use Rattle.runs.specs.Tour.{find-unique, in-points}
 use Rattle.runs.specs.Terms.{TermOk}
 use Rattle.runs.specs.KeptTerms.{SameKeys, Shape, absorb-shape, in-keep, in-uses, same-some}
-use Rattle.flat.specs.Shaped.{Shaped, terms, tidy}
+use Rattle.runs.specs.AcceptedRuns.{someWorld}
+use Rattle.runs.specs.Shaped.{Shaped, terms, tidy}
 use Rattle.flat.specs.Uses.{labels-visited}
 use Rattle.flat.specs.Phis.{edge-kept}
 
@@ -35,10 +34,6 @@ point-block q (x ∷ T) h = by-point (eqPoint q (x .0)) (point-block q T)
     by-point : (d : Dec (q ≡ x .0)) → (In q (points T) → (b : BlockLifting) × (find eqPoint q T ≡ some b)) → (b : BlockLifting) × (choose d (some (x .1)) (find eqPoint q T) ≡ some b)
     by-point (yes e) ih = (x .1, refl)
     by-point (no n) ih = ih (elim (in-cases h) [ inl e ↦ absurd (n e) | inr i ↦ i ])
-
--- any world will do: counts do not depend on it
-abbrev pub someWorld : World (Unit {0})
-someWorld = record { arg = λ i. tt; constant = λ c. tt; result = λ n. tt; truth = λ v. true; rule = λ i vs n. 0; rule-lt = λ i vs n h. h }
 
 module _ (F : Func) (ok : Shaped F) where
   abbrev T : Table

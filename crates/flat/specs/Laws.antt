@@ -21,7 +21,7 @@ use Rattle.runs.specs.Members.{In, NoDup}
 use Rattle.runs.specs.Accepted.{Numbered}
 use Rattle.runs.specs.Refers.{Refers}
 use Rattle.flat.specs.Flat.{Pass, blockParts, fuseAll, noPair, partAt, upTo}
-use Rattle.flat.specs.Shaped.{Shaped, walk-first, walk-once}
+use Rattle.runs.specs.Shaped.{Shaped, walk-first, walk-once}
 use Rattle.flat.specs.Chain.{chain-at, firstOf}
 use Rattle.flat.specs.Steps.{Step, walk-steps}
 use Rattle.flat.specs.Follow.{goesOn, walk-follows}

@@ -4,7 +4,6 @@ pub mod FlatLaws
 pub mod Chain
 pub mod Neighbours
 pub mod Beside
-pub mod Shaped
 pub mod Steps
 pub mod Uses
 pub mod Totals

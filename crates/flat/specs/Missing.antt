@@ -23,17 +23,17 @@ use Rattle.runs.specs.Members.{In, all-in, gather-in, here, in-cases, in-gather
 use Rattle.runs.specs.Accepted.{Accepted, Numbered}
 use Rattle.runs.specs.Refers.{Refers}
 use Rattle.runs.specs.Used.{settles}
-use Rattle.runs.specs.AcceptedRuns.{sound}
+use Rattle.runs.specs.AcceptedRuns.{someWorld, sound}
 use Rattle.runs.specs.AbsorbCount.{in-count}
 use Rattle.runs.specs.Ids.{Known, id-positive, number-low}
 use Rattle.runs.specs.EmitRun.{BlockOk, OpOk, point-named}
 use Rattle.runs.specs.Tour.{in-points}
 use Rattle.runs.specs.Tests.{every-in, find-in}
-use Rattle.flat.specs.Shaped.{Shaped}
-use Rattle.flat.specs.Totals.{count-in}
+use Rattle.runs.specs.Shaped.{Shaped}
+use Rattle.runs.specs.Pairs.{counted-in}
 use Rattle.flat.specs.Gathered.{insts-gather, pairs-gather}
 use Rattle.flat.specs.Callees.{callee-above, ops-below, type-above}
-use Rattle.flat.specs.Kept.{edge-fits, label-kept, point-block, someWorld}
+use Rattle.flat.specs.Kept.{edge-fits, label-kept, point-block}
 use Rattle.flat.specs.SetIds.{positive, set-of-id}
 
 -- an element by its place
@@ -141,7 +141,7 @@ module _ (F : Func) (ok : Shaped F) (refs : Refers F) (first : ℕ) (num : Numbe
           let w = gather-in (λ (y : CfgPoint × BlockLifting). pairFrom F first T K y q m) K (subst (In n) (pairs-gather F first T K q m K) i) in
           let y = w .0 in
           let c = edge-count (countIn q (y .1 .term .targets)) _ (w .2) in
-          let t : In q (y .1 .term .targets) = count-in q (y .1 .term .targets) (c .0) in
+          let t : In q (y .1 .term .targets) = counted-in q (y .1 .term .targets) (c .0) in
           let v : In (getD (edgeOf K (y .1 .term) q) m (const 0)) (edgeOf K (y .1 .term) q) = in-getD (edgeOf K (y .1 .term) q) m (const 0) (omega (arith, l, edge-fits F ok y (w .1) q t d k)) in
           elim (in-cases (c .1)) [
             | inl e ↦ omega (arith, e, set _ (in-uses y (w .1) _ (in-right (gather (λ o. opOf F o .operands) (y .1 .ops)) (in-right (y .1 .term .ins) (in-gather (λ p. edgeOf K (y .1 .term) p) t v)))))

@@ -18,7 +18,7 @@ use Rattle.runs.specs.Places.{Suffix, Visited, at-body, by-ctrl, in-case, in-lo
 use Rattle.runs.specs.AbsorbCount.{sole-straight}
 use Rattle.flat.specs.Chain.{chain-map, none-some, some-same}
 use Rattle.flat.specs.Beside.{Leads}
-use Rattle.flat.specs.Shaped.{Shaped, laid}
+use Rattle.runs.specs.Shaped.{Shaped, laid}
 use Rattle.flat.specs.Steps.{Onto, Step, entryOf, step-entry, step-exit, step-in, step-out, walk-steps}
 use Rattle.flat.specs.Uses.{Uses, before-node, from-block, leads-there, merge-select, used-twice}
 use Rattle.flat.specs.Neighbours.{Ahead, Near}

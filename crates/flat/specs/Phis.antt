@@ -22,7 +22,7 @@ use Rattle.runs.specs.KeptTerms.{SameKeys, absorb-shape, in-keep, keep-find}
 use Rattle.flat.specs.Flat.{fuseAll, fuseFrom, fuseStep, glues, gluesTo, noKeys}
 use Rattle.flat.specs.Gathered.{gather-append}
 use Rattle.flat.specs.Chain.{chain-all}
-use Rattle.flat.specs.Shaped.{Shaped, terms, tidy, walk-once}
+use Rattle.runs.specs.Shaped.{Shaped, terms, tidy, walk-once}
 use Rattle.flat.specs.Steps.{Step, step-entry, step-exit, step-in, step-out, walk-steps}
 use Rattle.flat.specs.Uses.{before-node, leads-there, merge-select, used-once}
 use Rattle.flat.specs.Neighbours.{kept-fused}

@@ -24,7 +24,7 @@ use Rattle.runs.specs.Accepted.{Numbered}
 use Rattle.runs.specs.Ids.{number-low}
 use Rattle.runs.specs.IdsOnce
 use Rattle.runs.specs.IdsOnce.{number-at}
-use Rattle.flat.specs.Shaped.{Shaped, depth, in-order, tree, walk-is, walk-once}
+use Rattle.runs.specs.Shaped.{Shaped, depth, in-order, tree, walk-is, walk-once}
 use Rattle.flat.specs.Phis.{phi-keys-kept}
 
 pub positive : (n : ℕ) → 0 < n → ltb 0 n ≡ true

@@ -16,7 +16,7 @@ use Rattle.runs.specs.Accepted.{Root, Targets}
 use Rattle.runs.specs.Order.{roots-visited}
 use Rattle.flat.specs.Chain.{Chain, chain-append, first-append, firstOf}
 use Rattle.flat.specs.Beside.{Beside, InOrder, first, roots-beside}
-use Rattle.flat.specs.Shaped.{Shaped, walk-is}
+use Rattle.runs.specs.Shaped.{Shaped, walk-is}
 
 abbrev pub entryOf : Option ℕ → Option CfgPoint
 entryOf none = none

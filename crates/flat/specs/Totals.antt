@@ -2,7 +2,7 @@
 use mathlib.Core.Path.{_≡_, refl, sym, ap, ap₂, _∙_, subst}
 use mathlib.Core.Logic.{inl, inr}
 use mathlib.Core.List.{List, [], _∷_, _++_}
-use Prim.Native.Nat.{ℕ, suc, _+_, _≤_, _<_}
+use Prim.Native.Nat.{ℕ, suc, _+_, _≤_}
 use native.Mathlib.Omega.{arith}
 use lib.ListN.{length, length-append}
 use Rattle.lifting.specs.Lists.{choose, choose-no, choose-yes, gather}
@@ -11,7 +11,7 @@ use Rattle.lifting.specs.Points.{BlockLifting, CfgPoint, Table, eqPoint, points
 use Rattle.lifting.specs.Walk.{walkOf}
 use Rattle.lifting.specs.Absorb.{countIn, firstUse, labels, one, useCount, uses}
 use Rattle.runs.specs.Members.{In, NoDup, gather-in, here, in-cases, in-nil, in-split, there}
-use Rattle.flat.specs.Shaped.{Shaped, walk-first, walk-once}
+use Rattle.runs.specs.Shaped.{Shaped, walk-first, walk-once}
 use Rattle.flat.specs.Uses.{labels-visited}
 
 -- all uses: the first point, and every target and merge label
@@ -24,14 +24,6 @@ allLabels T = gather (λ x. labels (x .1 .term)) T
 
 abbrev pub usesOf : Table → List CfgPoint
 usesOf T = firstPoint T ++ allLabels T
-
-pub count-in : (q : CfgPoint) (l : List CfgPoint) → 0 < countIn q l → In q l
-count-in q [] h = absurd (omega arith)
-count-in q (p ∷ l) h = by-point (eqPoint q p) h (count-in q l)
-  where
-    by-point : (d : Dec (q ≡ p)) → 0 < choose d 1 0 + countIn q l → (0 < countIn q l → In q l) → In q (p ∷ l)
-    by-point (yes e) g ih = subst (λ (r : CfgPoint). In q (r ∷ l)) e here
-    by-point (no n) g ih = there (ih (omega arith))
 
 count-append : (q : CfgPoint) (k l : List CfgPoint) → countIn q (k ++ l) ≡ countIn q k + countIn q l
 count-append q [] l = omega arith

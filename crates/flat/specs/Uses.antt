@@ -18,7 +18,7 @@ use Rattle.runs.specs.Tour.{in-points}
 use Rattle.runs.specs.Terms.{TermOk}
 use Rattle.flat.specs.Chain.{chain-all}
 use Rattle.flat.specs.Beside.{Leads}
-use Rattle.flat.specs.Shaped.{Shaped, laid, terms, visited-exit, visited-out}
+use Rattle.runs.specs.Shaped.{Shaped, laid, terms, visited-exit, visited-out}
 use Rattle.flat.specs.Steps.{Step, step-entry, step-exit, step-in, step-out, walk-steps}
 
 -- q is a target or a merge label of the block at p

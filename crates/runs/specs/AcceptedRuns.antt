@@ -1,6 +1,6 @@
 -- An accepted text: what the three simulations need of its walk and its kept blocks follows from what the refusals leave. Assumes nothing.
 use mathlib.Core.Path.{_≡_, refl, sym, ap, _∙_, subst}
-use mathlib.Core.Bool.{Bool, true, false}
+use mathlib.Core.Bool.{true}
 use mathlib.Core.List.{List, [], _∷_}
 use mathlib.Core.Option.{Option, some}
 use Prim.Native.Nat.{ℕ, zero, suc, _<_}
@@ -11,8 +11,8 @@ use Rattle.lifting.specs.Lists.{find, gather, tabulate}
 use Rattle.lifting.specs.Ast.{Func, Node, Value, const, dataInstOutput, loop, nodeOutput, regionInput}
 use Rattle.lifting.specs.Parts.{constOf, hasBody, nodeOf, opOf, outsOf, regionOf, valsOr}
 use Rattle.lifting.specs.Order.{roots}
-use Rattle.lifting.specs.Points.{BlockLifting, CfgPoint, Table, blockAt, blockOr, edgeOf, eqPoint}
-use Rattle.lifting.specs.Walk.{Place, always, entryBlock, inBlock, inNode, top, walkOf, walkRoots}
+use Rattle.lifting.specs.Points.{BlockLifting, CfgPoint, Table, blockOr, edgeOf, eqPoint}
+use Rattle.lifting.specs.Walk.{Place, always, entryBlock, inBlock, inNode, top, walkOf}
 use Rattle.lifting.specs.Absorb.{absorb, kept, useCount}
 use Rattle.lifting.specs.Ids.{names, paramKeys, phiKeys, resultOf, value}
 use Rattle.lifting.specs.Instructions.{listOf}
@@ -20,21 +20,23 @@ use Rattle.lifting.specs.World.{World}
 use Rattle.lifting.specs.Runs.{AlikeRuns, TrueConstants}
 use Rattle.runs.specs.Members.{All, In, all-from, all-in, here, in-gather, in-left, in-map, in-right, there}
 use Rattle.runs.specs.Accepted.{Accepted, Settled, a-const, a-param, a-phi, a-result}
-use Rattle.runs.specs.Places.{Laid}
 use Rattle.runs.specs.Structure.{Counted}
 use Rattle.runs.specs.AbsorbCount.{in-labels}
-use Rattle.runs.specs.AbsorbAll.{Kept, Tidy, absorb-kept, find-keep}
+use Rattle.runs.specs.AbsorbAll.{Kept, absorb-kept, find-keep}
 use Rattle.runs.specs.Ids.{Known}
 use Rattle.runs.specs.EmitRun.{BlockOk, KnownResult, OpOk, Sound, all-find}
 use Rattle.runs.specs.Start.{param-named, regions-listing}
 use Rattle.runs.specs.Tour.{find-unique}
-use Rattle.runs.specs.TourLaid.{walk-laid, walk-tidy}
 use Rattle.runs.specs.Tests.{find-in}
 use Rattle.runs.specs.Each.{every-point}
-use Rattle.runs.specs.Order.{roots-ok, roots-visited}
-use Rattle.runs.specs.Forest.{tree-of}
-use Rattle.runs.specs.Terms.{TermOk, walk-terms}
+use Rattle.runs.specs.Order.{roots-ok}
+use Rattle.runs.specs.Terms.{TermOk}
+use Rattle.runs.specs.Shaped.{Shaped, laid, shaped-accepted, terms, tidy, walk-is}
 use Rattle.runs.specs.KeptTerms.{SameKeys, Shape, absorb-shape, in-keep, in-uses, same-some, some-same}
+
+-- any world will do: what the emitter needs of the blocks does not depend on it
+abbrev pub someWorld : World (Unit {0})
+someWorld = record { arg = λ i. tt; constant = λ c. tt; result = λ n. tt; truth = λ v. true; rule = λ i vs n. 0; rule-lt = λ i vs n h. h }
 
 module _ (F : Func) (first : ℕ) (ok : Accepted F first) (body : hasBody (F .regions) ≡ true) where
   abbrev T : Table
@@ -58,19 +60,11 @@ module _ (F : Func) (first : ℕ) (ok : Accepted F first) (body : hasBody (F .re
     ctrl-off = λ r e i. ok .targets .not-body r _ e i;
   }
 
-  pub walk-is : walkRoots F (suc (length (F .regions))) (roots F) ≡ walkOf F
-  unfolding walkOf
-  walk-is = sym (ap (λ (b : Bool). elim b as (λ (c : Bool). Table) [ true ↦ walkRoots F (suc (length (F .regions))) (roots F) | false ↦ [] ]) body)
-
-  pub tidy : Tidy T
-  tidy = subst Tidy walk-is (walk-tidy F _ (tree-of F (ok .forest)) (roots F) (roots-ok F (ok .targets)) (λ n b c is e. ok .fitting .loop-ins n e))
-
-  terms : All (λ (x : CfgPoint × BlockLifting). TermOk T (x .1 .term)) T
-  terms = subst (λ (t : Table). All (λ (x : CfgPoint × BlockLifting). TermOk t (x .1 .term)) t) walk-is
-      (walk-terms F _ (tree-of F (ok .forest)) (roots F) (roots-ok F (ok .targets)) (ok .targets) (ok .fitting) (roots-visited F (ok .targets)))
+  abbrev shaped : Shaped F
+  shaped = shaped-accepted F first ok body
 
   shape : Shape T U
-  shape = absorb-shape T terms
+  shape = absorb-shape T (terms F shaped)
 
   -- phi keys are no constants
   NoCon : Value → Type 0
@@ -101,7 +95,7 @@ module _ (F : Func) (first : ℕ) (ok : Accepted F first) (body : hasBody (F .re
   in-keys n (Node.exit i vs) = tt
 
   keys-plain : All (λ (x : CfgPoint × BlockLifting). All NoCon (x .1 .keys)) T
-  keys-plain = subst (All (λ (x : CfgPoint × BlockLifting). All NoCon (x .1 .keys))) walk-is (every-point F (λ (x : CfgPoint × BlockLifting). All NoCon (x .1 .keys)) (λ r p t. entry-keys r p) (λ r p. tt) (λ n. in-keys n (nodeOf F n))
+  keys-plain = subst (All (λ (x : CfgPoint × BlockLifting). All NoCon (x .1 .keys))) (walk-is F shaped) (every-point F (λ (x : CfgPoint × BlockLifting). All NoCon (x .1 .keys)) (λ r p t. entry-keys r p) (λ r p. tt) (λ n. in-keys n (nodeOf F n))
       (λ n q. from-out n 0 (length (outsOf (nodeOf F n)))) (suc (length (F .regions))) (roots F) (roots-ok F (ok .targets) .no-child))
 
   -- phis of the walk and results of kept blocks have names
@@ -134,7 +128,7 @@ module _ (F : Func) (first : ℕ) (ok : Accepted F first) (body : hasBody (F .re
 
   module _ {Val : Type 0} (W : World Val) where
     fine : Kept F W T (absorb T)
-    fine = absorb-kept F W T tidy
+    fine = absorb-kept F W T (tidy F shaped)
 
     -- a kept block's phis are the walk's
     keys-of : (x : CfgPoint × BlockLifting) → In x K → (b : BlockLifting) × (find eqPoint (x .0) T ≡ some b) × (x .1 .keys ≡ b .keys)
@@ -218,5 +212,5 @@ module _ (F : Func) (first : ℕ) (ok : Accepted F first) (body : hasBody (F .re
     pub accepted-alike : TrueConstants F W → AlikeRuns F (listOf F first) W
     unfolding listOf
     accepted-alike true41 =
-        regions-listing F first T tidy sound W counted
-        (subst (λ (t : Table). Laid F (blockAt t)) walk-is (walk-laid F _ (tree-of F (ok .forest)) (roots F) (roots-ok F (ok .targets)))) (λ c h. true41 c (always-41 c h))
+        regions-listing F first T (tidy F shaped) sound W counted
+        (laid F shaped) (λ c h. true41 c (always-41 c h))

@@ -24,7 +24,7 @@ use Rattle.lifting.specs.Witness.{text}
 use Rattle.runs.specs.Members.{NoDup}
 use Rattle.runs.specs.Accepted.{Accepted}
 use Rattle.runs.specs.Places.{next}
-use Rattle.runs.specs.AcceptedRuns.{accepted-alike, sound}
+use Rattle.runs.specs.AcceptedRuns.{accepted-alike, someWorld, sound}
 use Rattle.runs.specs.Numbering.{ids-in-order, ids-up-to, no-name-twice, no-point-twice}
 use Rattle.runs.specs.Pairs.{OnePairEach, one-pair-each}
 use Rattle.runs.specs.Passes.{Passed, accepted-of, answer-passes}
@@ -51,10 +51,6 @@ module _ (text : List ℕ) (first func work out : ℕ) (ws : List ℕ) (next : �
   -- new ids run from the first id to the next free id less one, in the order of the names, and no name stands twice
   pub new-ids : NoDup (names F T K) × ((k : ℕ) → k < length (names F T K) → newId F first T K (getD (names F T K) k theFunction) ≡ first + k) × (first + length (names F T K) ≡ next)
   new-ids = (no-name-twice F first accepted body, ids-in-order F first accepted body, ids-up-to F first accepted body ∙ sym (passed .next-is))
-
-  -- any world will do: what the emitter needs of the blocks does not depend on it
-  abbrev someWorld : World (Unit {0})
-  someWorld = record { arg = λ i. tt; constant = λ c. tt; result = λ n. tt; truth = λ v. true; rule = λ i vs n. 0; rule-lt = λ i vs n h. h }
 
   -- phi j of the kept block at q
   pub phi-pairs : (q : CfgPoint) (j : ℕ) → OnePairEach F first T K q j (pairs F first T K K q j)

@@ -24,6 +24,7 @@ pub mod Order
 pub mod Forest
 pub mod Terms
 pub mod KeptTerms
+pub mod Shaped
 pub mod AcceptedRuns
 pub mod IdsOnce
 pub mod Numbering

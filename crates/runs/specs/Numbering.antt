@@ -15,7 +15,7 @@ use Rattle.runs.specs.Accepted.{Accepted}
 use Rattle.runs.specs.TourOnce.{roots-nodup}
 use Rattle.runs.specs.Order.{roots-ok}
 use Rattle.runs.specs.Forest.{tree-of}
-use Rattle.runs.specs.AcceptedRuns.{walk-is}
+use Rattle.runs.specs.Shaped.{shaped-accepted, walk-is}
 use Rattle.runs.specs.IdsOnce.{kept-points, names-once, number-at}
 
 module _ (F : Func) (first : ℕ) (ok : Accepted F first) (body : hasBody (F .regions) ≡ true) where
@@ -32,11 +32,11 @@ module _ (F : Func) (first : ℕ) (ok : Accepted F first) (body : hasBody (F .re
   walked-once = roots-nodup F depth (tree-of F (ok .forest)) depth (roots F) (roots-ok F (ok .targets) .once) (roots-ok F (ok .targets) .no-child)
 
   pub no-name-twice : NoDup (names F T K)
-  no-name-twice = subst (λ (t : Table). NoDup (names F t (kept t))) (walk-is F first ok body)
+  no-name-twice = subst (λ (t : Table). NoDup (names F t (kept t))) (walk-is F (shaped-accepted F first ok body))
       (names-once F depth (tree-of F (ok .forest)) (ok .targets .body-root) (ok .forest) (roots F) (roots-ok F (ok .targets) .no-child) walked-once)
 
   pub no-point-twice : NoDup (points K)
-  no-point-twice = subst (λ (t : Table). NoDup (points (kept t))) (walk-is F first ok body)
+  no-point-twice = subst (λ (t : Table). NoDup (points (kept t))) (walk-is F (shaped-accepted F first ok body))
       (kept-points F depth (tree-of F (ok .forest)) (ok .targets .body-root) (ok .forest) (roots F) (roots-ok F (ok .targets) .no-child) walked-once)
 
   -- the k-th name gets the k-th id from the first on

@@ -65,7 +65,7 @@ in-reverse-aux x [] r (inr h) = h
 in-reverse-aux x (y ∷ l) r (inl h) = in-reverse-aux x l (y ∷ r) (elim (in-cases h) [ inl e ↦ inr (subst (λ (z : ℕ). In z (y ∷ r)) (sym e) here) | inr i ↦ inl i ])
 in-reverse-aux x (y ∷ l) r (inr h) = in-reverse-aux x l (y ∷ r) (inr (there h))
 
-out-reverse-aux : (x : ℕ) (l r : List ℕ) → In x (reverseAux l r) → In x l ⊎ In x r
+pub out-reverse-aux : (x : ℕ) (l r : List ℕ) → In x (reverseAux l r) → In x l ⊎ In x r
 out-reverse-aux x [] r h = inr h
 out-reverse-aux x (y ∷ l) r h = elim (out-reverse-aux x l (y ∷ r) h) [
   | inl i ↦ inl (there i)

@@ -47,7 +47,7 @@ in-edge : (n : ℕ) (p : CfgPoint) → 0 < n → In p (ifEdge n p)
 in-edge zero p h = absurd (omega arith)
 in-edge (suc n) p h = here
 
-counted-in : (q : CfgPoint) (l : List CfgPoint) → 0 < countIn q l → In q l
+pub counted-in : (q : CfgPoint) (l : List CfgPoint) → 0 < countIn q l → In q l
 counted-in q [] h = absurd (omega arith)
 counted-in q (p ∷ l) h = by-case (eqPoint q p) h (counted-in q l)
   where
