@@ -47,7 +47,7 @@ unfolding count stored
 place k e w = elim (ltb (count k w) (room k)) [ true ↦ stored k e w | false ↦ set w (4 + k) (room k + 1) ]
 
 -- each of a list in turn
-unfoldable pub folds : {A : Type 0} → (A → List ℕ → List ℕ) → List A → List ℕ → List ℕ
+unfoldable pub folds : {A S : Type 0} → (A → S → S) → List A → S → S
 folds f [] w = w
 folds f (a ∷ xs) w = folds f xs (f a w)
 

@@ -20,12 +20,12 @@ pub less : {A : Type 0} {read : List ℕ → Reading A} {text : List ℕ} {at ne
 less t = omega (arith, t .moves .moved, t .moves .fits)
 
 -- of a line: behind its head, and behind the rest
-pub less-line : {A B : Type 0} {read : List ℕ → Reading A} {tail : List ℕ → Reading B} {f : B → List ℕ → List ℕ} {text : List ℕ} {at mid next : ℕ} {a : A} {w v : List ℕ}
+pub less-line : {A B S : Type 0} {read : List ℕ → Reading A} {tail : List ℕ → Reading B} {f : B → S → S} {text : List ℕ} {at mid next : ℕ} {a : A} {w v : S}
     → Took read text at a mid → Stores tail f text mid (some (tt, next)) w v → length text - next < length text - at
 less-line t s = omega (arith, t .moves .moved, s .moves .moved, s .moves .fits)
 
 -- ` (s ..`
-module _ {A : Type 0} (s : String) (C : Codec A) {f : A → List ℕ → List ℕ} {text : List ℕ} {at : ℕ} {w v : List ℕ} where
+module _ {A S : Type 0} (s : String) (C : Codec A) {f : A → S → S} {text : List ℕ} {at : ℕ} {w v : S} where
   pub sub-took : {mid : ℕ} {found : Option (Unit {0} × ℕ)} → Took (literal (bytes " (" ++ bytes s)) text at tt mid → Stores (C .read) f text mid found w v
       → Stores (sub s C .read) f text at found w v
   unfolding sub
@@ -36,7 +36,7 @@ module _ {A : Type 0} (s : String) (C : Codec A) {f : A → List ℕ → List �
   sub-denied p = before-denied (bytes " (" ++ bytes s) refl C p
 
 -- what ends a line
-module _ {A : Type 0} (C : Codec A) {f : A → List ℕ → List ℕ} {text : List ℕ} {at : ℕ} {w v : List ℕ} where
+module _ {A S : Type 0} (C : Codec A) {f : A → S → S} {text : List ℕ} {at : ℕ} {w v : S} where
   pub last-refused : Stores (C .read) f text at none w v → Stores (lastForm C .read) f text at none w v
   unfolding lastForm
   last-refused p = after-refused C (bytes ")\n") refl p
@@ -59,4 +59,4 @@ module _ {A : Type 0} (C : Codec A) {f : A → List ℕ → List ℕ} {text : Li
   pub ended-denied : {a : A} {mid : ℕ} → Took (C .read) text at a mid → Denied (literal (bytes "\n")) text mid → Stores (ended C .read) f text at none w v
   unfolding ended
   ended-denied p q =
-      stores-none (record { is = refused (after-stored C (bytes "\n") refl {f = λ a z. z} {w = []} (stores-one p refl) q); moves = tt })
+      stores-none (record { is = refused (after-stored {S = Unit {0}} C (bytes "\n") refl {f = λ a z. z} {w = tt} (stores-one p refl) q); moves = tt })

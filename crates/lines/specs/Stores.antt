@@ -1,15 +1,16 @@
--- Functions that read and store: what stands in the slice after they answered. Storing is a function on words, and of a list it is a fold, so
--- a loop's invariant is one equation: what is still to be stored from here on is what was to be stored from the start. Assumes nothing.
+-- Functions that read and store: what stands in the slice after they answered. Storing is a function on the words, or on
+-- a state that holds more than them, and of a list it is a fold, so a loop's invariant is one equation: what is still to be stored from here on
+-- is what was to be stored from the start. Assumes nothing.
 --     Stores                       from this place the reader finds this, and storing it makes these words of those
 --     first-.., before-.., ..      how the answers of the parts make the answer of the whole
---     stores-row                   a line's row, behind its lists
+--     stores-as, stores-row        the same found, and stored otherwise; a line's row, behind its lists
 --     Along                        the head of a loop over a list
 use mathlib.Core.Path.{_≡_, refl, sym, ap, _∙_, subst}
 use mathlib.Core.List.{List, [], _∷_, _++_}
 use mathlib.Core.Option.{Option, none, some, Option·some-injective}
 use Prim.Native.Nat.{ℕ, _≤_, _<_}
 use native.Mathlib.Omega.{arith}
-use lib.ListN.{length, drop}
+use lib.ListN.{drop}
 use Rattle.lifting.specs.Digits.{Reading}
 use Rattle.lifting.specs.Codec.{Codec, Led, then, both, second, up, strip, strip-sound, lit, seq, view, same}
 use Rattle.lifting.specs.Grammar.{before, after}
@@ -20,89 +21,94 @@ use Rattle.cursor.specs.declared.Step.{Step}
 use Rattle.func.specs.Store.{folds}
 
 -- what was read, stored by f: the words, and the rest of the text
-abbrev pub stored : {A : Type 0} → (A → List ℕ → List ℕ) → List ℕ → Reading A → Option (List ℕ × List ℕ)
+abbrev pub stored : {A S : Type 0} → (A → S → S) → S → Reading A → Option (S × List ℕ)
 stored f w none = none
 stored f w (some x) = some (f (x .0) w, x .1)
 
 -- the words v, and the place where reading goes on
-abbrev pub left : List ℕ → List ℕ → Option (Unit {0} × ℕ) → Option (List ℕ × List ℕ)
+abbrev pub left : {S : Type 0} → List ℕ → S → Option (Unit {0} × ℕ) → Option (S × List ℕ)
 left text v none = none
 left text v (some x) = some (v, drop (x .1) text)
 
-pub record Stores {A : Type 0} (read : List ℕ → Reading A) (f : A → List ℕ → List ℕ) (text : List ℕ) (at : ℕ) (found : Option (Unit {0} × ℕ)) (w v : List ℕ) : Type 0 where
+pub record Stores {A S : Type 0} (read : List ℕ → Reading A) (f : A → S → S) (text : List ℕ) (at : ℕ) (found : Option (Unit {0} × ℕ)) (w v : S) : Type 0 where
   pub is : stored f w (read (drop at text)) ≡ left text v found
   pub moves : Moves text at found
 
 -- an answer that is known to be one of its cases
-pub met : {A : Type 0} {read : List ℕ → Reading A} {f : A → List ℕ → List ℕ} {text : List ℕ} {at : ℕ} {w v : List ℕ} {r s : Step} → r ≡ s
+pub met : {A S : Type 0} {read : List ℕ → Reading A} {f : A → S → S} {text : List ℕ} {at : ℕ} {w v : S} {r s : Step} → r ≡ s
     → Stores read f text at (stepOf r) w v → Stores read f text at (stepOf s) w v
 met {read = read} {f} {text} {at} {w} {v} e p = subst (λ (r : Step). Stores read f text at (stepOf r) w v) e p
 
 -- a reader that goes by what is known to be this
-pub as-told : {A X : Type 0} (tail : X → List ℕ → Reading A) {f : A → List ℕ → List ℕ} {text : List ℕ} {at : ℕ} {found : Option (Unit {0} × ℕ)} {w v : List ℕ} {x y : X} → x ≡ y
+pub as-told : {A X S : Type 0} (tail : X → List ℕ → Reading A) {f : A → S → S} {text : List ℕ} {at : ℕ} {found : Option (Unit {0} × ℕ)} {w v : S} {x y : X} → x ≡ y
     → Stores (tail y) f text at found w v → Stores (tail x) f text at found w v
 as-told {X = X} tail {f} {text} {at} {found} {w} {v} e s = subst (λ (z : X). Stores (tail z) f text at found w v) (sym e) s
 
 -- a keeper that keeps the same
-pub as-kept : {A : Type 0} {read : List ℕ → Reading A} {f k : A → List ℕ → List ℕ} {text : List ℕ} {at : ℕ} {found : Option (Unit {0} × ℕ)} {w v : List ℕ} → ((a : A) → k a w ≡ f a w)
+pub as-kept : {A S : Type 0} {read : List ℕ → Reading A} {f k : A → S → S} {text : List ℕ} {at : ℕ} {found : Option (Unit {0} × ℕ)} {w v : S} → ((a : A) → k a w ≡ f a w)
     → Stores read f text at found w v → Stores read k text at found w v
-as-kept {A} {read} {f} {k} {text} {at} {w = w} e s = record { is = by-found (read (drop at text)) ∙ s .is; moves = s .moves }
+as-kept {A} {S} {read} {f} {k} {text} {at} {w = w} e s = record { is = by-found (read (drop at text)) ∙ s .is; moves = s .moves }
   where
     by-found : (o : Reading A) → stored k w o ≡ stored f w o
     by-found none = refl
-    by-found (some x) = ap (λ (z : List ℕ). some (z, x .1)) (e (x .0))
+    by-found (some x) = ap (λ (z : S). some (z, x .1)) (e (x .0))
 
 -- a value that is read and then stored
-pub stores-one : {A : Type 0} {read : List ℕ → Reading A} {f : A → List ℕ → List ℕ} {text : List ℕ} {at next : ℕ} {a : A} {w v : List ℕ}
+pub stores-one : {A S : Type 0} {read : List ℕ → Reading A} {f : A → S → S} {text : List ℕ} {at next : ℕ} {a : A} {w v : S}
     → Took read text at a next → v ≡ f a w → Stores read f text at (some (tt, next)) w v
-stores-one {f = f} {text} {next = next} {w = w} t e =
-    record { is = ap (stored f w) (t .is) ∙ ap (λ (u : List ℕ). some (u, drop next text)) (sym e); moves = t .moves }
+stores-one {S = S} {f = f} {text} {next = next} {w = w} t e =
+    record { is = ap (stored f w) (t .is) ∙ ap (λ (u : S). some (u, drop next text)) (sym e); moves = t .moves }
 
 -- what refuses, refuses whatever was to be stored
-pub stores-none : {A : Type 0} {read : List ℕ → Reading A} {f : A → List ℕ → List ℕ} {text : List ℕ} {at : ℕ} {w v : List ℕ}
+pub stores-none : {A S : Type 0} {read : List ℕ → Reading A} {f : A → S → S} {text : List ℕ} {at : ℕ} {w v : S}
     → Denied read text at → Stores read f text at none w v
 stores-none {f = f} {w = w} d = record { is = ap (stored f w) (d .is); moves = tt }
 
-pub refused : {A : Type 0} {read : List ℕ → Reading A} {f : A → List ℕ → List ℕ} {text : List ℕ} {at : ℕ} {w v : List ℕ}
+pub refused : {A S : Type 0} {read : List ℕ → Reading A} {f : A → S → S} {text : List ℕ} {at : ℕ} {w v : S}
     → Stores read f text at none w v → read (drop at text) ≡ none
-refused {A} {read} {f} {text} {at} {w} s = by-found (read (drop at text)) (s .is)
+refused {A} {S} {read} {f} {text} {at} {w} s = by-found (read (drop at text)) (s .is)
   where
     by-found : (o : Reading A) → stored f w o ≡ none → o ≡ none
     by-found none e = refl
     by-found (some x) e = absurd (let z : _≡_ {A = ℕ} 0 1 = cc in omega arith)
 
 -- what a reader that stores has taken
-pub taken : {A : Type 0} {read : List ℕ → Reading A} {k : A → List ℕ → List ℕ} {text : List ℕ} {at next : ℕ} {w v : List ℕ}
+pub taken : {A S : Type 0} {read : List ℕ → Reading A} {k : A → S → S} {text : List ℕ} {at next : ℕ} {w v : S}
     → Stores read k text at (some (tt, next)) w v → (a : A) × (read (drop at text) ≡ some (a, drop next text)) × (k a w ≡ v)
-taken {A} {read} {k} {text} {at} {next} {w} {v} s = by-found (read (drop at text)) refl (s .is)
+taken {A} {S} {read} {k} {text} {at} {next} {w} {v} s = by-found (read (drop at text)) refl (s .is)
   where
     by-found : (o : Reading A) → read (drop at text) ≡ o → stored k w o ≡ some (v, drop next text) → (a : A) × (read (drop at text) ≡ some (a, drop next text)) × (k a w ≡ v)
     by-found none e q = absurd (let z : _≡_ {A = ℕ} 0 1 = cc in omega arith)
     by-found (some x) e q =
-        let i : _≡_ {A = List ℕ × List ℕ} (k (x .0) w, x .1) (v, drop next text) = Option·some-injective _ _ q in
-        (x .0, e ∙ ap (λ (r : List ℕ). some (x .0, r)) (ap (λ (y : List ℕ × List ℕ). y .1) i), ap (λ (y : List ℕ × List ℕ). y .0) i)
+        let i : _≡_ {A = S × List ℕ} (k (x .0) w, x .1) (v, drop next text) = Option·some-injective _ _ q in
+        (x .0, e ∙ ap (λ (r : List ℕ). some (x .0, r)) (ap (λ (y : S × List ℕ). y .1) i), ap (λ (y : S × List ℕ). y .0) i)
 
 onward : {A : Type 0} (text : List ℕ) {at mid : ℕ} → at < mid → (found : Option (A × ℕ)) → Moves text mid found → Moves text at found
 onward text h none m = tt
 onward text h (some x) m = record { moved = omega (arith, m .moved); fits = m .fits }
 
--- a line's row, behind its lists: k is f and then the row
-module _ {A : Type 0} {read : List ℕ → Reading A} {f k : A → List ℕ → List ℕ} {text : List ℕ} {at : ℕ} {w v : List ℕ} where
-  pub stores-row : {next : ℕ} {u : List ℕ} (row : List ℕ → List ℕ) → ((a : A) → k a w ≡ row (f a w)) → Stores read f text at (some (tt, next)) w u → v ≡ row u
-      → Stores read k text at (some (tt, next)) w v
-  stores-row {next} {u} row is s e =
+-- another keeper, even of another state, for what was read
+module _ {A S T : Type 0} {read : List ℕ → Reading A} {f : A → S → S} {k : A → T → T} {text : List ℕ} {at : ℕ} {w u : S} {x y : T} where
+  pub stores-as : {next : ℕ} → Stores read f text at (some (tt, next)) w u → ((a : A) → read (drop at text) ≡ some (a, drop next text) → f a w ≡ u → k a x ≡ y)
+      → Stores read k text at (some (tt, next)) x y
+  stores-as {next} s e =
       let t = taken s in
-      record { is = ap (stored k w) (t .1) ∙ ap (λ (z : List ℕ). some (z, drop next text)) (is (t .0) ∙ ap row (t .2) ∙ sym e); moves = s .moves }
+      record { is = ap (stored k x) (t .1) ∙ ap (λ (z : T). some (z, drop next text)) (e (t .0) (t .1) (t .2)); moves = s .moves }
 
-  pub stores-not : Stores read f text at none w v → Stores read k text at none w v
-  stores-not s = record { is = ap (stored k w) (refused s); moves = tt }
+  pub stores-not : Stores read f text at none w u → Stores read k text at none x y
+  stores-not s = record { is = ap (stored k x) (refused s); moves = tt }
+
+-- a line's row, behind its lists: k is f and then the row
+pub stores-row : {A S : Type 0} {read : List ℕ → Reading A} {f k : A → S → S} {text : List ℕ} {at next : ℕ} {w u v : S} (row : S → S) → ((a : A) → k a w ≡ row (f a w))
+    → Stores read f text at (some (tt, next)) w u → v ≡ row u → Stores read k text at (some (tt, next)) w v
+stores-row row is s e = stores-as s (λ a r q. is a ∙ ap row q ∙ sym e)
 
 -- as another type, and back
-stored-up : {A B : Type 0} (f : A → B) (k : B → List ℕ → List ℕ) (w : List ℕ) (o : Reading A) → stored k w (then o (up f)) ≡ stored (λ (a : A). k (f a)) w o
+stored-up : {A B S : Type 0} (f : A → B) (k : B → S → S) (w : S) (o : Reading A) → stored k w (then o (up f)) ≡ stored (λ (a : A). k (f a)) w o
 stored-up f k w none = refl
 stored-up f k w (some x) = refl
 
-module _ {A B : Type 0} (read : List ℕ → Reading A) (f : A → B) {k : B → List ℕ → List ℕ} {text : List ℕ} {at : ℕ} {found : Option (Unit {0} × ℕ)} {w v : List ℕ} where
+module _ {A B S : Type 0} (read : List ℕ → Reading A) (f : A → B) {k : B → S → S} {text : List ℕ} {at : ℕ} {found : Option (Unit {0} × ℕ)} {w v : S} where
   pub as-up : Stores read (λ a. k (f a)) text at found w v → Stores (λ t. then (read t) (up f)) k text at found w v
   as-up s = record { is = stored-up f k w (read (drop at text)) ∙ s .is; moves = s .moves }
 
@@ -110,18 +116,18 @@ module _ {A B : Type 0} (read : List ℕ → Reading A) (f : A → B) {k : B →
   as-down s = record { is = sym (stored-up f k w (read (drop at text))) ∙ s .is; moves = s .moves }
 
 -- the row of what is read as another type
-pub up-row : {A B : Type 0} (read : List ℕ → Reading A) (f : A → B) {l k : B → List ℕ → List ℕ} {text : List ℕ} {at next : ℕ} {w u v : List ℕ} (row : List ℕ → List ℕ)
+pub up-row : {A B S : Type 0} (read : List ℕ → Reading A) (f : A → B) {l k : B → S → S} {text : List ℕ} {at next : ℕ} {w u v : S} (row : S → S)
     → ((a : A) → k (f a) w ≡ row (l (f a) w)) → Stores (λ t. then (read t) (up f)) l text at (some (tt, next)) w u → v ≡ row u
     → Stores (λ t. then (read t) (up f)) k text at (some (tt, next)) w v
 up-row read f row is s e = as-up read f (stores-row row is (as-down read f s) e)
 
-pub as-same : {A B : Type 0} (C : Codec A) (f : A → B) (g : B → A) (fg : (b : B) → f (g b) ≡ b) (gf : (a : A) → g (f a) ≡ a) {k : B → List ℕ → List ℕ} {text : List ℕ} {at : ℕ}
-    {found : Option (Unit {0} × ℕ)} {w v : List ℕ} → Stores (C .read) (λ a. k (f a)) text at found w v → Stores (same C f g fg gf .read) k text at found w v
+pub as-same : {A B S : Type 0} (C : Codec A) (f : A → B) (g : B → A) (fg : (b : B) → f (g b) ≡ b) (gf : (a : A) → g (f a) ≡ a) {k : B → S → S} {text : List ℕ} {at : ℕ}
+    {found : Option (Unit {0} × ℕ)} {w v : S} → Stores (C .read) (λ a. k (f a)) text at found w v → Stores (same C f g fg gf .read) k text at found w v
 unfolding same view
 as-same C f g fg gf s = as-up (C .read) f s
 
 -- what a head found tells how reading goes on
-module _ {A X : Type 0} (head : List ℕ → Reading X) (tail : X → List ℕ → Reading A) {k : A → List ℕ → List ℕ} {text : List ℕ} {at : ℕ} {w v : List ℕ} where
+module _ {A X S : Type 0} (head : List ℕ → Reading X) (tail : X → List ℕ → Reading A) {k : A → S → S} {text : List ℕ} {at : ℕ} {w v : S} where
   pub head-took : {x : X} {mid : ℕ} {found : Option (Unit {0} × ℕ)} → Took head text at x mid → Stores (tail x) k text mid found w v → Stores (λ t. goOn (head t) tail) k text at found w v
   head-took {found = found} p s = record {
     is = ap (λ (o : Reading X). stored k w (goOn o tail)) (p .is) ∙ s .is;
@@ -132,9 +138,9 @@ module _ {A X : Type 0} (head : List ℕ → Reading X) (tail : X → List ℕ �
   head-denied p = record { is = ap (λ (o : Reading X). stored k w (goOn o tail)) (p .is); moves = tt }
 
 -- one after the other
-module _ {A B : Type 0} (C : Codec A) (D : Codec B) {text : List ℕ} {at : ℕ} where
+module _ {A B S : Type 0} (C : Codec A) (D : Codec B) {text : List ℕ} {at : ℕ} where
   -- the first is only read, and what the second stores may depend on it
-  pub first-took : (g : A → B → List ℕ → List ℕ) {a : A} {mid : ℕ} {found : Option (Unit {0} × ℕ)} {w v : List ℕ}
+  pub first-took : (g : A → B → S → S) {a : A} {mid : ℕ} {found : Option (Unit {0} × ℕ)} {w v : S}
       → Took (C .read) text at a mid → Stores (D .read) (g a) text mid found w v → Stores (seq C D .read) (λ x. g (x .0) (x .1)) text at found w v
   unfolding seq
   first-took g {a} {mid} {found} {w} t s = record {
@@ -147,41 +153,41 @@ module _ {A B : Type 0} (C : Codec A) (D : Codec B) {text : List ℕ} {at : ℕ}
       by-second (some x) = refl
 
   -- the first is stored too
-  pub first-stored : {f : A → List ℕ → List ℕ} (g : B → List ℕ → List ℕ) {mid : ℕ} {found : Option (Unit {0} × ℕ)} {w u v : List ℕ}
+  pub first-stored : {f : A → S → S} (g : B → S → S) {mid : ℕ} {found : Option (Unit {0} × ℕ)} {w u v : S}
       → Stores (C .read) f text at (some (tt, mid)) w u → Stores (D .read) g text mid found u v → Stores (seq C D .read) (λ x z. g (x .1) (f (x .0) z)) text at found w v
   unfolding seq
   first-stored {f} g {mid} {found} {w} {u} {v} t s = record {
     is = let p = taken t in
-        ap (λ (o : Reading A). stored (λ (x : A × B) (z : List ℕ). g (x .1) (f (x .0) z)) w (then o (second C D))) (p .1) ∙ by-second (p .0) (p .2) (D .read (drop mid text)) ∙ s .is;
+        ap (λ (o : Reading A). stored (λ (x : A × B) (z : S). g (x .1) (f (x .0) z)) w (then o (second C D))) (p .1) ∙ by-second (p .0) (p .2) (D .read (drop mid text)) ∙ s .is;
     moves = onward text (t .moves .moved) found (s .moves);
   }
     where
-      by-second : (a : A) → f a w ≡ u → (o : Reading B) → stored (λ (x : A × B) (z : List ℕ). g (x .1) (f (x .0) z)) w (then o (both a)) ≡ stored g u o
+      by-second : (a : A) → f a w ≡ u → (o : Reading B) → stored (λ (x : A × B) (z : S). g (x .1) (f (x .0) z)) w (then o (both a)) ≡ stored g u o
       by-second a e none = refl
-      by-second a e (some x) = ap (λ (z : List ℕ). some (g (x .0) z, x .1)) e
+      by-second a e (some x) = ap (λ (z : S). some (g (x .0) z, x .1)) e
 
-  pub first-denied : {h : A × B → List ℕ → List ℕ} {w v : List ℕ} → Denied (C .read) text at → Stores (seq C D .read) h text at none w v
+  pub first-denied : {h : A × B → S → S} {w v : S} → Denied (C .read) text at → Stores (seq C D .read) h text at none w v
   unfolding seq
   first-denied {h} {w} d = record { is = ap (λ (o : Reading A). stored h w (then o (second C D))) (d .is); moves = tt }
 
-  pub first-refused : {f : A → List ℕ → List ℕ} {h : A × B → List ℕ → List ℕ} {w v : List ℕ} → Stores (C .read) f text at none w v → Stores (seq C D .read) h text at none w v
+  pub first-refused : {f : A → S → S} {h : A × B → S → S} {w v : S} → Stores (C .read) f text at none w v → Stores (seq C D .read) h text at none w v
   unfolding seq
   first-refused {f} {h} {w} s = record { is = ap (λ (o : Reading A). stored h w (then o (second C D))) (refused s); moves = tt }
 
 -- behind a literal
-module _ {A : Type 0} (s : List ℕ) (h : Led s) (C : Codec A) {text : List ℕ} {at : ℕ} {f : A → List ℕ → List ℕ} where
-  pub before-took : {mid : ℕ} {found : Option (Unit {0} × ℕ)} {w v : List ℕ} → Took (literal s) text at tt mid → Stores (C .read) f text mid found w v → Stores (before s h C .read) f text at found w v
+module _ {A S : Type 0} (s : List ℕ) (h : Led s) (C : Codec A) {text : List ℕ} {at : ℕ} {f : A → S → S} where
+  pub before-took : {mid : ℕ} {found : Option (Unit {0} × ℕ)} {w v : S} → Took (literal s) text at tt mid → Stores (C .read) f text mid found w v → Stores (before s h C .read) f text at found w v
   unfolding before lit
   before-took t r = as-same (seq (lit s h) C) (λ x. x .1) (λ a. (tt, a)) (λ a. refl) (λ x. refl) (first-took (lit s h) C (λ u. f) t r)
 
-  pub before-denied : {w v : List ℕ} → Denied (literal s) text at → Stores (before s h C .read) f text at none w v
+  pub before-denied : {w v : S} → Denied (literal s) text at → Stores (before s h C .read) f text at none w v
   unfolding before lit
   before-denied d = as-same (seq (lit s h) C) (λ x. x .1) (λ a. (tt, a)) (λ a. refl) (λ x. refl) (first-denied (lit s h) C d)
 
 -- before a literal
-module _ {A : Type 0} (C : Codec A) (s : List ℕ) (h : Led s) {text : List ℕ} {at : ℕ} {f : A → List ℕ → List ℕ} where
+module _ {A S : Type 0} (C : Codec A) (s : List ℕ) (h : Led s) {text : List ℕ} {at : ℕ} {f : A → S → S} where
   -- it stands there, or not
-  pub after-stored : {mid : ℕ} {found : Option (Unit {0} × ℕ)} {w v : List ℕ} → Stores (C .read) f text at (some (tt, mid)) w v → Reads (literal s) text mid found
+  pub after-stored : {mid : ℕ} {found : Option (Unit {0} × ℕ)} {w v : S} → Stores (C .read) f text at (some (tt, mid)) w v → Reads (literal s) text mid found
       → Stores (after C s h .read) f text at found w v
   unfolding after lit
   after-stored {mid} {found} {w} {v} r t =
@@ -191,7 +197,7 @@ module _ {A : Type 0} (C : Codec A) (s : List ℕ) (h : Led s) {text : List ℕ}
       by-found none d = unfold lit in stores-none d
       by-found (some x) d = unfold lit in stores-one d refl
 
-  pub after-refused : {w v : List ℕ} → Stores (C .read) f text at none w v → Stores (after C s h .read) f text at none w v
+  pub after-refused : {w v : S} → Stores (C .read) f text at none w v → Stores (after C s h .read) f text at none w v
   unfolding after lit
   after-refused r = as-same (seq C (lit s h)) (λ x. x .0) (λ a. (a, tt)) (λ a. refl) (λ x. refl) (first-refused C (lit s h) r)
 
@@ -202,17 +208,17 @@ pub record Listing {A : Type 0} (C : Codec A) (s : List ℕ) (M : Codec (List A)
   pub apart : (r : List ℕ) → C .read (s ++ r) ≡ none
 
 -- a loop over a list stands at this place, with the words v
-pub record Along {A : Type 0} (M : Codec (List A)) (k : A → List ℕ → List ℕ) (text : List ℕ) (from : ℕ) (w : List ℕ) (at : ℕ) (v : List ℕ) : Type 0 where
+pub record Along {A S : Type 0} (size : S → ℕ) (M : Codec (List A)) (k : A → S → S) (text : List ℕ) (from : ℕ) (w : S) (at : ℕ) (v : S) : Type 0 where
   pub is : stored (folds k) w (M .read (drop from text)) ≡ stored (folds k) v (M .read (drop at text))
   pub ahead : from ≤ at
-  pub len : length v ≡ length w
+  pub len : size v ≡ size w
 
-pub along-first : {A : Type 0} {M : Codec (List A)} {k : A → List ℕ → List ℕ} {text : List ℕ} {from : ℕ} {w : List ℕ} → Along M k text from w from w
+pub along-first : {A S : Type 0} {size : S → ℕ} {M : Codec (List A)} {k : A → S → S} {text : List ℕ} {from : ℕ} {w : S} → Along size M k text from w from w
 along-first = record { is = refl; ahead = omega arith; len = refl }
 
-module _ {A : Type 0} {C : Codec A} {s : List ℕ} {M : Codec (List A)} (L : Listing C s M) {k : A → List ℕ → List ℕ} {text : List ℕ} {from at : ℕ} {w v : List ℕ} (a : Along M k text from w at v) where
+module _ {A S : Type 0} {C : Codec A} {s : List ℕ} {M : Codec (List A)} (L : Listing C s M) {size : S → ℕ} {k : A → S → S} {text : List ℕ} {from at : ℕ} {w v : S} (a : Along size M k text from w at v) where
   -- one more
-  pub along-more : {x : A} {next : ℕ} {u : List ℕ} → Took (C .read) text at x next → u ≡ k x v → length u ≡ length v → Along M k text from w next u
+  pub along-more : {x : A} {next : ℕ} {u : S} → Took (C .read) text at x next → u ≡ k x v → size u ≡ size v → Along size M k text from w next u
   unfolding folds
   along-more {x} {next} {u} t e l = record {
     is = a .is ∙ ap (stored (folds k) v) (L .more (drop at text) x (drop next text) (t .is)) ∙ by-found (M .read (drop next text));
@@ -222,7 +228,7 @@ module _ {A : Type 0} {C : Codec A} {s : List ℕ} {M : Codec (List A)} (L : Lis
     where
       by-found : (o : Reading (List A)) → stored (folds k) v (then o (λ y. some (x ∷ y .0, y .1))) ≡ stored (folds k) u o
       by-found none = refl
-      by-found (some y) = ap (λ (z : List ℕ). some (folds k (y .0) z, y .1)) (sym e)
+      by-found (some y) = ap (λ (z : S). some (folds k (y .0) z, y .1)) (sym e)
 
   -- closed: what closes a list is none of its elements
   pub along-end : {next : ℕ} → Took (literal s) text at tt next → Stores (M .read) (folds k) text from (some (tt, next)) w v
@@ -241,7 +247,7 @@ module _ {A : Type 0} {C : Codec A} {s : List ℕ} {M : Codec (List A)} (L : Lis
           ∙ ap (λ (y : Unit {0} × List ℕ). some (v, y .1)) (Option·some-injective _ _ q)
 
   -- neither one more, nor closed
-  pub along-stuck : {u : List ℕ} → Denied (literal s) text at → Denied (C .read) text at → Stores (M .read) (folds k) text from none w u
+  pub along-stuck : {u : S} → Denied (literal s) text at → Denied (C .read) text at → Stores (M .read) (folds k) text from none w u
   along-stuck t d = record {
     is = a .is ∙ ap (stored (folds k) v) (L .over (drop at text) (d .is)) ∙ by-strip (strip s (drop at text)) (t .is);
     moves = tt;

@@ -14,7 +14,7 @@ use Rattle.lines.proofs.lists.decl_list.Statement.{statement}
 use Rattle.lines.proofs.lists.decl_list.Tie as tie
 
 abbrev Inv-loop : tie.InvT-loop
-Inv-loop func₀ text c₀ func c = Along decls keepDecl text (c₀ .at) func₀ (c .at) func
+Inv-loop func₀ text c₀ func c = Along length decls keepDecl text (c₀ .at) func₀ (c .at) func
 
 abbrev μ-loop : tie.MeasureT-loop
 μ-loop func₀ text c₀ func c = length text - c .at

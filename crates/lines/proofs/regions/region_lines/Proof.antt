@@ -14,7 +14,7 @@ use Rattle.lines.proofs.regions.region_lines.Statement.{statement}
 use Rattle.lines.proofs.regions.region_lines.Tie as tie
 
 abbrev Inv-loop : tie.InvT-loop
-Inv-loop func₀ text c₀ t7 func c = Going regionLines keepRegion text (c₀ .at) func₀ (c .at) func
+Inv-loop func₀ text c₀ t7 func c = Going length regionLines keepRegion text (c₀ .at) func₀ (c .at) func
 
 abbrev μ-loop : tie.MeasureT-loop
 μ-loop func₀ text c₀ t7 func c = length text - c .at
