@@ -134,17 +134,21 @@ keepValue v w = push values (valueWords v) w
 abbrev pub keepImm : Imm → List ℕ → List ℕ
 keepImm i w = push imms (immWords i) w
 
+-- a number, for pool k
+abbrev pub keepNumber : ℕ → ℕ → List ℕ → List ℕ
+keepNumber k n w = push k (single n) w
+
 abbrev pub keepTarget : ℕ → List ℕ → List ℕ
-keepTarget r w = push targets (single r) w
+keepTarget = keepNumber targets
 
 abbrev pub keepNodeRef : ℕ → List ℕ → List ℕ
-keepNodeRef n w = push nodeRefs (single n) w
+keepNodeRef = keepNumber nodeRefs
 
 abbrev pub keepOpRef : ℕ → List ℕ → List ℕ
-keepOpRef i w = push opRefs (single i) w
+keepOpRef = keepNumber opRefs
 
 abbrev pub keepChild : ℕ → List ℕ → List ℕ
-keepChild r w = push childRefs (single r) w
+keepChild = keepNumber childRefs
 
 -- The keepers of lines.
 unfoldable pub keepRegion : Region → List ℕ → List ℕ

@@ -26,10 +26,10 @@ ghost use mathlib.Core.Path.{_≡_};
 ghost use Prim.Native.Nat.{_<_, _≤_};
 ghost use lib.ListN.{length};
 ghost use Rattle.lifting.specs.Limits.{scratchWords};
-ghost use Rattle.func.specs.Layout.{poolTotal, values};
+ghost use Rattle.func.specs.Layout.{poolTotal, entryWords, values};
 ghost use Rattle.func.specs.Store.{count, push};
 ghost use Rattle.func.specs.Lines.{span};
-ghost use Rattle.func.specs.Keep.{pairWords, keepHead, keepConst, keepParam, keepDecl, keepValue, keepImm, keepTarget, keepNodeRef, keepOpRef, keepChild};
+ghost use Rattle.func.specs.Keep.{pairWords, keepHead, keepConst, keepParam, keepDecl, keepValue, keepImm, keepNumber};
 ghost use Rattle.func.specs.Kinds.{constFrom, declFrom, immFrom, asValue, nodeKindNumber, opKindNumber, opKindFirst, opKindSecond, ctrlKindNumber};
 ghost use Rattle.func.specs.Rows.{marksOf, regionRow, nodeRow, opRow, entryRow, ctrlRowFrom};
 
@@ -124,40 +124,13 @@ pub fn keep_imm(func: &mut [u32], kind: u32, operand: u32, word: u32)
     push(func, IMMS, &[kind, operand, word]);
 }
 
-// A number of `(to R..)`.
-pub fn keep_target(func: &mut [u32], n: u32)
-    requires { ⌜ scratchWords ≤ length (now func) ⌝ }
-    ensures { λ _. ⌜ now (func .exit) ≡ keepTarget n (now (func .entry)) ⌝ }
+// A number of a list: of a region's nodes, a block's ops, a node's child regions or a ctrl line's targets, by the pool that it goes to.
+pub fn keep_number(func: &mut [u32], k: usize, n: u32)
+    requires { ⌜ (scratchWords ≤ length (now func)) × (k < poolTotal) × (entryWords k ≡ 1) ⌝ }
+    ensures { λ _. ⌜ now (func .exit) ≡ keepNumber k n (now (func .entry)) ⌝ }
     ensures { λ _. ⌜ length (now (func .exit)) ≡ length (now (func .entry)) ⌝ }
 {
-    push(func, TARGETS, &[n]);
-}
-
-// A number of a region's list of nodes.
-pub fn keep_node_ref(func: &mut [u32], n: u32)
-    requires { ⌜ scratchWords ≤ length (now func) ⌝ }
-    ensures { λ _. ⌜ now (func .exit) ≡ keepNodeRef n (now (func .entry)) ⌝ }
-    ensures { λ _. ⌜ length (now (func .exit)) ≡ length (now (func .entry)) ⌝ }
-{
-    push(func, NODE_REFS, &[n]);
-}
-
-// A number of a block's list of ops.
-pub fn keep_op_ref(func: &mut [u32], n: u32)
-    requires { ⌜ scratchWords ≤ length (now func) ⌝ }
-    ensures { λ _. ⌜ now (func .exit) ≡ keepOpRef n (now (func .entry)) ⌝ }
-    ensures { λ _. ⌜ length (now (func .exit)) ≡ length (now (func .entry)) ⌝ }
-{
-    push(func, OP_REFS, &[n]);
-}
-
-// A child region of a node.
-pub fn keep_child(func: &mut [u32], n: u32)
-    requires { ⌜ scratchWords ≤ length (now func) ⌝ }
-    ensures { λ _. ⌜ now (func .exit) ≡ keepChild n (now (func .entry)) ⌝ }
-    ensures { λ _. ⌜ length (now (func .exit)) ≡ length (now (func .entry)) ⌝ }
-{
-    push(func, CHILD_REFS, &[n]);
+    push(func, k, &[n]);
 }
 
 // A value's kind and first number in one word, its second number in the next.

@@ -1,11 +1,13 @@
 // Lists with the word before them, and with what ends them.
-use crate::lists::case_list;
 use crate::lists::decl_list;
 use crate::lists::imm_list;
-use crate::lists::node_list;
+use crate::lists::number_list;
 use crate::lists::value_list;
 use cursor::Cursor;
 use cursor::Step;
+use func::CHILD_REFS;
+use func::NODE_REFS;
+use func::TARGETS;
 ghost use mathlib.Core.Path.{_≡_};
 ghost use Prim.Native.Nat.{_≤_};
 ghost use lib.ListN.{length};
@@ -13,7 +15,7 @@ ghost use Rattle.lifting.specs.Limits.{scratchWords};
 ghost use Rattle.lifting.specs.Grammar.{numbers, decls, values, sub};
 ghost use Rattle.cursor.specs.Answers.{stepOf};
 ghost use Rattle.func.specs.Store.{folds};
-ghost use Rattle.func.specs.Keep.{keepDecl, keepValue, keepNodeRef, keepChild};
+ghost use Rattle.func.specs.Keep.{keepDecl, keepValue, keepTarget, keepNodeRef, keepChild};
 ghost use Rattle.lines.specs.Stores.{Stores};
 ghost use Rattle.lines.specs.Tails.{lastForm, ended, instValues};
 ghost use Rattle.lines.specs.Keepers.{keepInstValues};
@@ -27,7 +29,7 @@ pub fn nodes_form(func: &mut [u32], text: &[u8], from: Cursor) -> Step
     let Step::On(c) = from.word(text, b" (nodes") else {
         return Step::Refused;
     };
-    node_list(func, text, c)
+    number_list(func, text, NODE_REFS, c)
 }
 
 // ` (cases R..)`.
@@ -39,7 +41,31 @@ pub fn cases_form(func: &mut [u32], text: &[u8], from: Cursor) -> Step
     let Step::On(c) = from.word(text, b" (cases") else {
         return Step::Refused;
     };
-    case_list(func, text, c)
+    number_list(func, text, CHILD_REFS, c)
+}
+
+// ` (to R..)`.
+pub fn to_form(func: &mut [u32], text: &[u8], from: Cursor) -> Step
+    requires { ⌜ scratchWords ≤ length (now func) ⌝ }
+    ensures { λ r. ⌜ Stores (sub "to" numbers .read) (folds keepTarget) (now (text .entry)) (from .at) (stepOf r) (now (func .entry)) (now (func .exit)) ⌝ }
+    ensures { λ _. ⌜ length (now (func .exit)) ≡ length (now (func .entry)) ⌝ }
+{
+    let Step::On(c) = from.word(text, b" (to") else {
+        return Step::Refused;
+    };
+    number_list(func, text, TARGETS, c)
+}
+
+// ` (ins V..)`.
+pub fn ins_form(func: &mut [u32], text: &[u8], from: Cursor) -> Step
+    requires { ⌜ scratchWords ≤ length (now func) ⌝ }
+    ensures { λ r. ⌜ Stores (sub "ins" values .read) (folds keepValue) (now (text .entry)) (from .at) (stepOf r) (now (func .entry)) (now (func .exit)) ⌝ }
+    ensures { λ _. ⌜ length (now (func .exit)) ≡ length (now (func .entry)) ⌝ }
+{
+    let Step::On(c) = from.word(text, b" (ins") else {
+        return Step::Refused;
+    };
+    value_list(func, text, c)
 }
 
 // ` (out V..))`, which ends its line.

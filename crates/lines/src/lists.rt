@@ -9,13 +9,14 @@ use cursor::ValueRead;
 use func::Val;
 use func::keep;
 ghost use mathlib.Core.Path.{_≡_};
-ghost use Prim.Native.Nat.{_≤_};
+ghost use Prim.Native.Nat.{_≤_, _<_};
 ghost use lib.ListN.{length};
 ghost use Rattle.lifting.specs.Limits.{scratchWords};
 ghost use Rattle.lifting.specs.Grammar.{numbers, decls, values, imms};
 ghost use Rattle.cursor.specs.Answers.{stepOf, valueOf};
 ghost use Rattle.func.specs.Store.{folds};
-ghost use Rattle.func.specs.Keep.{keepDecl, keepValue, keepImm, keepNodeRef, keepOpRef, keepChild};
+ghost use Rattle.func.specs.Layout.{poolTotal, entryWords};
+ghost use Rattle.func.specs.Keep.{keepDecl, keepValue, keepImm, keepNumber};
 ghost use Rattle.func.specs.Kinds.{asValue};
 ghost use Rattle.lines.specs.Stores.{Stores};
 
@@ -97,10 +98,10 @@ pub fn imm_list(func: &mut [u32], text: &[u8], from: Cursor) -> Step
     }
 }
 
-// `N..)`: the nodes of a region.
-pub fn node_list(func: &mut [u32], text: &[u8], from: Cursor) -> Step
-    requires { ⌜ scratchWords ≤ length (now func) ⌝ }
-    ensures { λ r. ⌜ Stores (numbers .read) (folds keepNodeRef) (now (text .entry)) (from .at) (stepOf r) (now (func .entry)) (now (func .exit)) ⌝ }
+// `N..)`: numbers, for pool k.
+pub fn number_list(func: &mut [u32], text: &[u8], k: usize, from: Cursor) -> Step
+    requires { ⌜ (scratchWords ≤ length (now func)) × (k < poolTotal) × (entryWords k ≡ 1) ⌝ }
+    ensures { λ r. ⌜ Stores (numbers .read) (folds (keepNumber k)) (now (text .entry)) (from .at) (stepOf r) (now (func .entry)) (now (func .exit)) ⌝ }
     ensures { λ _. ⌜ length (now (func .exit)) ≡ length (now (func .entry)) ⌝ }
 {
     let mut c = from;
@@ -111,45 +112,7 @@ pub fn node_list(func: &mut [u32], text: &[u8], from: Cursor) -> Step
         let NumberRead::Number(n, d) = c.field(text) else {
             return Step::Refused;
         };
-        keep::keep_node_ref(func, n);
-        c = d;
-    }
-}
-
-// `I..)`: the ops of a block.
-pub fn op_list(func: &mut [u32], text: &[u8], from: Cursor) -> Step
-    requires { ⌜ scratchWords ≤ length (now func) ⌝ }
-    ensures { λ r. ⌜ Stores (numbers .read) (folds keepOpRef) (now (text .entry)) (from .at) (stepOf r) (now (func .entry)) (now (func .exit)) ⌝ }
-    ensures { λ _. ⌜ length (now (func .exit)) ≡ length (now (func .entry)) ⌝ }
-{
-    let mut c = from;
-    loop {
-        if let Step::On(d) = c.close(text) {
-            return Step::On(d);
-        }
-        let NumberRead::Number(n, d) = c.field(text) else {
-            return Step::Refused;
-        };
-        keep::keep_op_ref(func, n);
-        c = d;
-    }
-}
-
-// `R..)`: the cases of a select.
-pub fn case_list(func: &mut [u32], text: &[u8], from: Cursor) -> Step
-    requires { ⌜ scratchWords ≤ length (now func) ⌝ }
-    ensures { λ r. ⌜ Stores (numbers .read) (folds keepChild) (now (text .entry)) (from .at) (stepOf r) (now (func .entry)) (now (func .exit)) ⌝ }
-    ensures { λ _. ⌜ length (now (func .exit)) ≡ length (now (func .entry)) ⌝ }
-{
-    let mut c = from;
-    loop {
-        if let Step::On(d) = c.close(text) {
-            return Step::On(d);
-        }
-        let NumberRead::Number(n, d) = c.field(text) else {
-            return Step::Refused;
-        };
-        keep::keep_child(func, n);
+        keep::keep_number(func, k, n);
         c = d;
     }
 }

@@ -7,15 +7,17 @@ use crate::forms::inst_values;
 use crate::forms::outs_form;
 use crate::lists::imm_list;
 use crate::lists::keep_value;
-use crate::lists::op_list;
+use crate::lists::number_list;
 use cursor::Cursor;
 use cursor::NumberRead;
 use cursor::Selection;
 use cursor::SelectionRead;
 use cursor::Step;
 use cursor::ValueRead;
+use func::CHILD_REFS;
 use func::Marks;
 use func::NodeKind;
+use func::OP_REFS;
 use func::keep;
 ghost use mathlib.Core.Path.{_≡_};
 ghost use Prim.Native.Nat.{_≤_};
@@ -39,7 +41,7 @@ pub fn block_line(func: &mut [u32], text: &[u8], from: Cursor) -> Step
     ensures { λ _. ⌜ length (now (func .exit)) ≡ length (now (func .entry)) ⌝ }
 {
     let marks = keep::begin(func);
-    let Step::On(c) = op_list(func, text, from) else {
+    let Step::On(c) = number_list(func, text, OP_REFS, from) else {
         return Step::Refused;
     };
     let Step::On(d) = c.word(text, b"\n") else {
@@ -75,7 +77,7 @@ pub fn loop_line(func: &mut [u32], text: &[u8], from: Cursor) -> Step
     let Step::On(d) = loop_lists(func, text, c) else {
         return Step::Refused;
     };
-    keep::keep_child(func, r);
+    keep::keep_number(func, CHILD_REFS, r);
     keep::node_row(func, marks, NodeKind::Loop, 0);
     Step::On(d)
 }

@@ -15,7 +15,7 @@ returns c =
 returns-2 : tie.Need-returns-2
 returns-2 c =
     let p = told stepOf (c .before .before .before .before .before .c .given .1) (c .before .before .before .before .before .before .before .word .ensures) in
-    let rest = c .before .before .case-list .ensures .0 in
+    let rest = c .before .before .number-list .ensures .0 in
     (sub-took "cases" numbers p rest, search needs)
 
 pub cases-form-spec : {M : Type 1} → statement M

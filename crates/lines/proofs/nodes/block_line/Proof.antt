@@ -13,19 +13,19 @@ use Rattle.lines.proofs.nodes.block_line.Tie as tie
 
 returns : tie.Need-returns
 returns c =
-    let q = met (c .enum-told .given .1) (c .before .before .before .before .op-list .ensures .0) in
+    let q = met (c .enum-told .given .1) (c .before .before .before .before .number-list .ensures .0) in
     (as-up (ended numbers .read) block (stores-not (ended-refused numbers q)), search needs)
 
 returns-2 : tie.Need-returns-2
 returns-2 c =
-    let q = met (c .before .before .before .before .before .c .given .1) (c .before .before .before .before .before .before .before .before .before .op-list .ensures .0) in
+    let q = met (c .before .before .before .before .before .c .given .1) (c .before .before .before .before .before .before .before .before .before .number-list .ensures .0) in
     let r = told stepOf (c .enum-told2 .given .1) (c .before .before .word .ensures) in
     (as-up (ended numbers .read) block (stores-not (ended-stored numbers q r)), search needs)
 
 returns-3 : tie.Need-returns-3
 returns-3 c =
     let began = c .before .before .before .before .before .before .before .before .before .before .before .before .before .before .before .before .begin .ensures in
-    let q = met (c .before .before .before .before .before .before .before .before .before .before .c .given .1) (c .before .before .before .before .before .before .before .before .before .before .before .before .before .before .op-list .ensures .0) in
+    let q = met (c .before .before .before .before .before .before .before .before .before .before .c .given .1) (c .before .before .before .before .before .before .before .before .before .before .before .before .before .before .number-list .ensures .0) in
     let r = told stepOf (c .before .before .before .before .before .d .given .1) (c .before .before .before .before .before .before .before .word .ensures) in
     (block-stored began (ended-stored numbers q r) (c .before .before .node-row .ensures .0), search needs)
 

@@ -27,7 +27,7 @@ returns-3 c =
     let began = c .before .before .before .before .before .before .before .before .before .before .before .before .before .before .before .before .before .before .before .begin .ensures in
     let q = told numberOf (c .before .before .before .before .before .before .before .before .before .before .before .before .before .before .before .before .r .given .1) (c .before .before .before .before .before .before .before .before .before .before .before .before .before .before .before .before .before .before .field .ensures) in
     let r = met (c .before .before .before .before .before .before .before .before .before .d .given .1) (c .before .before .before .before .before .before .before .before .before .before .before .before .before .loop-lists .ensures .0) in
-    let kept = c .before .before .before .before .before .before .keep-child .ensures in
+    let kept = c .before .before .before .before .before .before .keep-number .ensures in
     (loop-stored began q r (kept .0) (c .before .before .node-row .ensures .0), search needs)
 
 pub loop-line-spec : {M : Type 1} → statement M

@@ -1,4 +1,4 @@
--- `lists::case_list` meets its contract: the loop stands before a number or the bracket, and what is still to be stored from there is what was to be stored
+-- `lists::number_list` meets its contract: the loop stands before a number or the bracket, and what is still to be stored from there is what was to be stored
 -- from the start. Assumes nothing.
 use Prim.Native.Nat.{_-_}
 use lib.ListN.{length}
@@ -6,18 +6,18 @@ use borrow.Author.Needs.{needs}
 use Rattle.lifting.specs.Grammar.{numbers}
 use Rattle.cursor.specs.Answers.{stepOf, numberOf}
 use Rattle.cursor.proofs.Laws.{told}
-use Rattle.func.specs.Keep.{keepChild}
+use Rattle.func.specs.Keep.{keepNumber}
 use Rattle.lines.specs.Stores.{Along, along-first, along-more, along-end, along-stuck}
 use Rattle.lines.specs.Lists.{numbers-listing}
 use Rattle.lines.proofs.Laws.{less}
-use Rattle.lines.proofs.lists.case_list.Statement.{statement}
-use Rattle.lines.proofs.lists.case_list.Tie as tie
+use Rattle.lines.proofs.lists.number_list.Statement.{statement}
+use Rattle.lines.proofs.lists.number_list.Tie as tie
 
 abbrev Inv-loop : tie.InvT-loop
-Inv-loop func₀ text c₀ func c = Along length numbers keepChild text (c₀ .at) func₀ (c .at) func
+Inv-loop func₀ text k c₀ func c = Along length numbers (keepNumber k) text (c₀ .at) func₀ (c .at) func
 
 abbrev μ-loop : tie.MeasureT-loop
-μ-loop func₀ text c₀ func c = length text - c .at
+μ-loop func₀ text k c₀ func c = length text - c .at
 
 returns : tie.Need-returns Inv-loop μ-loop
 returns c =
@@ -37,11 +37,11 @@ loop-less c = less (told numberOf (c .before .before .before .before .before .n 
 loop-again : tie.Need-loop-again Inv-loop μ-loop
 loop-again c =
     let one = told numberOf (c .before .before .before .before .before .n .given .1) (c .before .before .before .before .before .before .before .field .ensures) in
-    let kept = c .before .before .keep-child .ensures in
+    let kept = c .before .before .keep-number .ensures in
     along-more numbers-listing (c .before .before .before .before .before .before .before .before .before .before .before .loop .inv) one (kept .0) (kept .1)
 
-pub case-list-spec : {M : Type 1} → statement M
-case-list-spec =
+pub number-list-spec : {M : Type 1} → statement M
+number-list-spec =
     tie.close
     (tie.spec
     Inv-loop
