@@ -1,5 +1,5 @@
--- The walk of the roots, and the tests of refusal 7 as loops.
-pub mod Stack
-pub mod Walk
+-- The tables by region, the walk of the roots, and the tests of refusal 7 as loops.
+pub mod Tables
+pub mod Visit
 pub mod Loops
 pub mod Meets

@@ -2,35 +2,29 @@
 --     every-..       a test of each element
 --     has-..         an element with a key
 --     once-..        no key twice
---     root-every     no child: of each node
 --     control-..     the parts of the refusal
 use mathlib.Core.Path.{_≡_, refl, sym, ap, _∙_}
 use mathlib.Core.Bool.{Bool, true, false, not, _&&_}
-use mathlib.Core.List.{List, [], _∷_, _++_}
+use mathlib.Core.List.{List, [], _∷_}
 use Prim.Native.Nat.{ℕ, zero, suc, _+_, _-_, _≤_, _<_}
 use native.Mathlib.Decide.{ℕ-discrete}
-use native.Mathlib.Numerals.{add-one}
 use native.Mathlib.Omega.{arith}
 use lib.Dec.{eqb, leb, ltb}
 use lib.ListN.{length, getD, drop}
-use lib.Seq.{drop-cons}
-use Rattle.lifting.specs.Lists.{choose, choose-yes, choose-no, every, gather, within, distinct, keys, tabulate}
-use Rattle.lifting.specs.Ast.{Node, boolCond, spvInst, ControlInstKind, unreachable, return, branch, selectBranch, exitInvocation, ControlInst, Func}
-use Rattle.lifting.specs.Parts.{childrenOf, childList}
+use Rattle.lifting.specs.Lists.{choose, choose-yes, choose-no, every, within, distinct, keys, tabulate}
+use Rattle.lifting.specs.Ast.{boolCond, spvInst, ControlInstKind, unreachable, return, branch, selectBranch, exitInvocation, ControlInst, Func}
 use Rattle.lifting.specs.Order.{roots}
 use Rattle.lifting.specs.Control.{kindFits, isRoot, ctrlFits, reachedFit, controlFits}
 use Rattle.func.specs.declared.CtrlKind.{CtrlKind}
 use Rattle.func.specs.declared.CtrlKind.the-variants.{Unreachable, Return, Branch, Bool as BoolCtrl, Inst as InstCtrl, Exit as ExitCtrl}
 use Rattle.func.specs.Kinds.{ctrlKind}
+use Rattle.control.specs.Tables.{drop-one}
 
 drop-all : {A : Type 0} (l : List A) (i : ℕ) → length l ≤ i → drop i l ≡ []
 drop-all [] zero h = refl
 drop-all [] (suc i) h = refl
 drop-all (x ∷ l) zero h = absurd (omega arith)
 drop-all (x ∷ l) (suc i) h = drop-all l i (omega arith)
-
-drop-one : {A : Type 0} (l : List A) (i : ℕ) (d : A) → i < length l → drop i l ≡ getD l i d ∷ drop (i + 1) l
-drop-one {A} l i d h = drop-cons l i d h ∙ ap (λ (k : ℕ). getD l i d ∷ drop k l) (sym (add-one i))
 
 -- each element
 module _ {A : Type 0} (p : A → Bool) (l : List A) (i : ℕ) where
@@ -80,26 +74,6 @@ module _ {A : Type 0} (l : List (ℕ × A)) (i : ℕ) where
 pub every-keys : {A : Type 0} (p : ℕ → Bool) (l : List (ℕ × A)) → every p (keys l) ≡ every (λ x. p (x .0)) l
 every-keys p [] = refl
 every-keys p (x ∷ l) = ap (λ (b : Bool). p (x .0) && b) (every-keys p l)
-
--- no child, node by node
-within-append : (r : ℕ) (a b : List ℕ) → not (within r (a ++ b)) ≡ (not (within r a) && not (within r b))
-within-append r [] b = refl
-within-append r (x ∷ a) b = go (ℕ-discrete r x) (within-append r a b)
-  where
-    go : (d : Dec (r ≡ x)) → not (within r (a ++ b)) ≡ (not (within r a) && not (within r b)) → not (choose d true (within r (a ++ b))) ≡ (not (choose d true (within r a)) && not (within r b))
-    go (yes e) i = refl
-    go (no n) i = i
-
-abbrev pub noChild : ℕ → Node → Bool
-noChild r n = not (within r (childrenOf n))
-
-gather-every : (r : ℕ) (l : List Node) → not (within r (gather childrenOf l)) ≡ every (noChild r) l
-gather-every r [] = refl
-gather-every r (n ∷ l) = within-append r (childrenOf n) (gather childrenOf l) ∙ ap (λ (b : Bool). noChild r n && b) (gather-every r l)
-
-pub root-every : (F : Func) (r : ℕ) → isRoot F r ≡ every (noChild r) (F .nodes)
-unfolding childList
-root-every F r = gather-every r (F .nodes)
 
 -- a line: no child, and what the line says
 abbrev pub targetFits : Func → ℕ → Bool
@@ -204,7 +178,3 @@ kind-test branch ins to = refl
 kind-test (selectBranch boolCond) ins to = refl
 kind-test (selectBranch (spvInst i)) ins to = refl
 kind-test (exitInvocation i) ins to = refl
-
--- what a number that names no line stands for
-abbrev pub noLine : ℕ × ControlInst
-noLine = (0, record { attrs = 0; kind = unreachable; ins = []; to = []; vals = [] })

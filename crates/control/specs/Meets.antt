@@ -1,30 +1,26 @@
--- What the walk asks of a function holds of every text that passes refusal 4. Assumes nothing.
---     refer-below    every region that a ctrl line names is one
---     named-from     the targets name regions, where the function slice holds the function and every region that a ctrl line names is one
+-- What the tables and the walk ask of a function holds of every text that passes refusal 4. Assumes nothing.
+--     refer-below    every region that a node or a ctrl line names is one
+--     named-from     so the function that stands in the function slice is as asked
 use mathlib.Core.Path.{_≡_}
-use mathlib.Core.Bool.{true, _&&_}
+use mathlib.Core.Bool.{Bool, true, _&&_}
 use mathlib.Core.List.{List, [], _∷_, _++_, map}
-use mathlib.Core.Option.{some}
-use Prim.Native.Nat.{ℕ, suc, _+_, _<_}
-use native.Mathlib.Decide.{ℕ-discrete}
+use Prim.Native.Nat.{ℕ, _<_}
 use native.Mathlib.Omega.{arith}
 use lib.Dec.{leb, ltb, lit<}
 use lib.ListN.{length, getD}
 use borrow.Author.Tests.{ltb-true}
-use Rattle.lifting.specs.Lists.{choose, every, distinct, find, keys}
-use Rattle.lifting.specs.Ast.{ControlInst, Func}
-use Rattle.lifting.specs.Parts.{values, insts, nodeList, opList, childList, ctrlRegions, requiredIds}
+use Rattle.lifting.specs.Lists.{every, distinct, keys}
+use Rattle.lifting.specs.Ast.{block, Node, ControlInst, Func}
+use Rattle.lifting.specs.Parts.{nodeOf, childrenOf, values, insts, nodeList, opList, childList, ctrlRegions, requiredIds}
 use Rattle.lifting.specs.Limits.{maxOpcode}
 use Rattle.lifting.specs.References.{named, instFits, referencesHold}
-use Rattle.lifting.specs.Order.{targetsOf}
 use Rattle.func.specs.Lists.{both, every-at, every-append, every-gather}
 use Rattle.func.specs.Layout.{regions}
 use Rattle.func.specs.Decode.{funcOf}
-use Rattle.func.specs.Tables.{Tables, ctrlLine, region-total, list-count, ctrl-targets}
-use Rattle.control.specs.Walk.{Named}
-use Rattle.control.specs.Loops.{noLine}
+use Rattle.func.specs.Tables.{Tables, ctrlLine, region-total}
+use Rattle.control.specs.Tables.{Named, noLine}
 
-pub refer-below : (F : Func) → referencesHold F ≡ true → every (λ r. ltb r (length (F .regions))) (ctrlRegions F) ≡ true
+pub refer-below : (F : Func) → referencesHold F ≡ true → every (λ r. ltb r (length (F .regions))) (childList F ++ ctrlRegions F) ≡ true
 unfolding referencesHold
 refer-below F e =
     let a = every (named F) (values F) in
@@ -34,37 +30,42 @@ refer-below F e =
     let x = every (λ x. ltb 0 x) (requiredIds F) in
     let y = distinct (map (λ c. c .id) (F .consts)) in
     let z = every (λ c. leb (c .opcode) maxOpcode) (F .consts) in
-    let q = both (a && b && c) d (both (a && b && c && d) x (both (a && b && c && d && x) y (both (a && b && c && d && x && y) z (both (a && b && c && d && x && y && z) (every instFits (insts F)) e .0) .0) .0) .0) in
-    every-append (λ r. ltb r (length (F .regions))) (childList F) (ctrlRegions F) (q .1) .1
+    both (a && b && c) d (both (a && b && c && d) x (both (a && b && c && d && x) y (both (a && b && c && d && x && y) z (both (a && b && c && d && x && y && z) (every instFits (insts F)) e .0) .0) .0) .0) .1
 
--- what holds of each line's targets, and of none, holds of a root's
-found : (P : List ℕ → Type 0) (r : ℕ) (l : List (ℕ × ControlInst)) → P [] → ((i : ℕ) → i < length l → P (getD l i noLine .1 .to)) → P (targetsOf (find ℕ-discrete r l))
-found P r [] n h = n
-found P r (x ∷ l) n h = go (ℕ-discrete r (x .0)) (found P r l n (λ i b. h (suc i) (omega arith)))
-  where
-    go : (d : Dec (r ≡ x .0)) → P (targetsOf (find ℕ-discrete r l)) → P (targetsOf (choose d (some (x .1)) (find ℕ-discrete r l)))
-    go (yes e) k = h 0 (omega arith)
-    go (no e) k = k
-
-module _ {w : List ℕ} (t : Tables w) (e : every (λ r. ltb r (length (funcOf w .regions))) (ctrlRegions (funcOf w)) ≡ true) where
+module _ {w : List ℕ} (t : Tables w) (e : every (λ r. ltb r (length (funcOf w .regions))) (childList (funcOf w) ++ ctrlRegions (funcOf w)) ≡ true) where
   abbrev F : Func
   F = funcOf w
 
-  -- all that line i names
-  line : (i : ℕ) → i < length (F .ctrls) → every (λ r. ltb r (length (F .regions))) (ctrlLine F i .0 ∷ (ctrlLine F i .1 .to ++ keys (ctrlLine F i .1 .vals))) ≡ true
+  abbrev below : ℕ → Bool
+  below r = ltb r (length (F .regions))
+
+  -- all that node n names
+  children : (n : ℕ) → n < length (F .nodes) → every below (childrenOf (nodeOf F n)) ≡ true
+  unfolding childList
+  children n h =
+      every-at (λ (x : Node). every below (childrenOf x)) (F .nodes)
+      (every-gather below childrenOf (F .nodes) (every-append below (childList F) (ctrlRegions F) e .0)) n (block []) h
+
+  -- all that line c names
+  line : (c : ℕ) → c < length (F .ctrls) → every below (ctrlLine F c .0 ∷ (ctrlLine F c .1 .to ++ keys (ctrlLine F c .1 .vals))) ≡ true
   unfolding ctrlRegions
-  line i h =
-      every-at (λ (c : ℕ × ControlInst). every (λ r. ltb r (length (F .regions))) (c .0 ∷ (c .1 .to ++ keys (c .1 .vals)))) (F .ctrls)
-      (every-gather (λ r. ltb r (length (F .regions))) (λ (c : ℕ × ControlInst). c .0 ∷ (c .1 .to ++ keys (c .1 .vals))) (F .ctrls) e) i noLine h
+  line c h =
+      every-at (λ (x : ℕ × ControlInst). every below (x .0 ∷ (x .1 .to ++ keys (x .1 .vals)))) (F .ctrls)
+      (every-gather below (λ (x : ℕ × ControlInst). x .0 ∷ (x .1 .to ++ keys (x .1 .vals))) (F .ctrls) (every-append below (childList F) (ctrlRegions F) e .1)) c noLine h
 
-  line-targets : (i : ℕ) → i < length (F .ctrls) → every (λ r. ltb r (length (F .regions))) (ctrlLine F i .1 .to) ≡ true
-  line-targets i h = every-append (λ r. ltb r (length (F .regions))) (ctrlLine F i .1 .to) (keys (ctrlLine F i .1 .vals)) (both (ltb (ctrlLine F i .0) (length (F .regions))) (every (λ r. ltb r (length (F .regions))) (ctrlLine F i .1 .to ++ keys (ctrlLine F i .1 .vals))) (line i h) .1) .0
+  parts : (c : ℕ) → c < length (F .ctrls) → (below (ctrlLine F c .0) ≡ true) × (every below (ctrlLine F c .1 .to) ≡ true)
+  parts c h =
+      let p = both (below (ctrlLine F c .0)) (every below (ctrlLine F c .1 .to ++ keys (ctrlLine F c .1 .vals))) (line c h) in
+      (p .0, every-append below (ctrlLine F c .1 .to) (keys (ctrlLine F c .1 .vals)) (p .1) .0)
 
-  pub named-from : 0 < length (F .ctrls) → Named F
-  named-from h = record {
-    some = let z = ltb-true (ctrlLine F 0 .0) (length (F .regions)) (both (ltb (ctrlLine F 0 .0) (length (F .regions))) (every (λ r. ltb r (length (F .regions))) (ctrlLine F 0 .1 .to ++ keys (ctrlLine F 0 .1 .vals))) (line 0 h) .0) in omega arith;
+  pub named-from : Named F
+  named-from = record {
     few = omega (arith, region-total t, t .counts regions (lit< tt));
-    short = λ r. found (λ l. length l < 4096) r (F .ctrls) (omega arith) (λ i b. omega (arith, list-count (ctrl-targets t i b)));
-    low = λ r. found (λ l. (i : ℕ) → i < length l → getD l i 0 < length (F .regions)) r (F .ctrls) (λ i b. absurd (omega arith))
-        (λ i b j l. ltb-true (getD (ctrlLine F i .1 .to) j 0) (length (F .regions)) (every-at (λ r. ltb r (length (F .regions))) (ctrlLine F i .1 .to) (line-targets i b) j 0 l));
+    child = λ n i h l. ltb-true (getD (childrenOf (nodeOf F n)) i 0) (length (F .regions)) (every-at below (childrenOf (nodeOf F n)) (children n h) i 0 l);
+    line = λ c h. ltb-true (ctrlLine F c .0) (length (F .regions)) (parts c h .0);
+    target = λ c i h l. ltb-true (getD (ctrlLine F c .1 .to) i 0) (length (F .regions)) (every-at below (ctrlLine F c .1 .to) (parts c h .1) i 0 l);
   }
+
+-- in one step
+pub named-refers : {w : List ℕ} → Tables w → referencesHold (funcOf w) ≡ true → Named (funcOf w)
+named-refers {w} t e = named-from t (refer-below (funcOf w) e)

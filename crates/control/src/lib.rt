@@ -1,8 +1,14 @@
-// Refusal 7: whether the ctrl lines of the function slice fit. Lines, targets and entries are few, so each is compared with the others of its
-// list; the roots come from the walk.
+// Refusal 7: whether the ctrl lines of the function slice fit. Regions are looked up in the tables of the work slice; entries of one line are
+// compared with its other entries and its targets. The roots come from the walk.
+pub mod tables;
 pub mod walk;
 
-use crate::walk::reached;
+use crate::tables::CHILDREN;
+use crate::tables::LINES;
+use crate::tables::index;
+use crate::tables::mark_nodes;
+use crate::walk::ROOTS_END;
+use crate::walk::order;
 use func::CtrlKind;
 use func::look::ctrl_in_count;
 use func::look::ctrl_kind;
@@ -10,9 +16,6 @@ use func::look::ctrl_region;
 use func::look::ctrl_total;
 use func::look::entry_count;
 use func::look::entry_region;
-use func::look::node_child;
-use func::look::node_child_count;
-use func::look::node_total;
 use func::look::target;
 use func::look::target_count;
 use func::pools::wide;
@@ -21,77 +24,30 @@ ghost use Prim.Native.Nat.{_≤_, _<_};
 ghost use lib.ListN.{length, drop};
 ghost use Rattle.lifting.specs.Limits.{scratchWords};
 ghost use Rattle.lifting.specs.Lists.{every, within, distinct, keys};
-ghost use Rattle.lifting.specs.Parts.{nodeOf, childrenOf};
+ghost use Rattle.lifting.specs.Parts.{childList};
 ghost use Rattle.lifting.specs.Control.{isRoot, ctrlFits, controlFits};
 ghost use Rattle.func.specs.Decode.{funcOf};
 ghost use Rattle.func.specs.Tables.{Tables, ctrlLine};
-ghost use Rattle.control.specs.Walk.{Named, listed};
+ghost use Rattle.control.specs.Tables.{childrenAt, tablesEnd, Named, Indexed, Marked};
+ghost use Rattle.control.specs.Visit.{listed, Low};
 ghost use Rattle.control.specs.Loops.{targetFits, lineFits, kindTest};
 
-// Region r is a child of node n.
-fn has_child(func: &[u32], n: usize, r: usize) -> bool
-    requires { ⌜ Tables (now func) ⌝ }
-    requires { ⌜ n < length (funcOf (now func) .nodes) ⌝ }
-    ensures { λ x. ⌜ x ≡ within r (childrenOf (nodeOf (funcOf (now (func .entry))) n)) ⌝ }
-{
-    let k = node_child_count(func, n);
-    let mut i = 0;
-    while i < k {
-        if node_child(func, n, i) == r {
-            return true;
-        }
-        i += 1;
-    }
-    false
-}
-
 // Region r is no child.
-fn is_root(func: &[u32], r: usize) -> bool
-    requires { ⌜ Tables (now func) ⌝ }
+fn is_root(func: &[u32], work: &[u32], r: usize) -> bool
+    requires { ⌜ Marked childrenAt (childList (funcOf (now func))) (now work) ⌝ }
+    requires { ⌜ (r < 128) × (tablesEnd ≤ length (now work)) ⌝ }
     ensures { λ x. ⌜ x ≡ isRoot (funcOf (now (func .entry))) r ⌝ }
 {
-    let k = node_total(func);
-    let mut i = 0;
-    while i < k {
-        if has_child(func, i, r) {
-            return false;
-        }
-        i += 1;
-    }
-    true
+    work[CHILDREN + r] == 0
 }
 
-// A ctrl line from line s on is region r's.
-fn key_after(func: &[u32], s: usize, r: usize) -> bool
-    requires { ⌜ Tables (now func) ⌝ }
-    ensures { λ x. ⌜ x ≡ within r (keys (drop s (funcOf (now (func .entry)) .ctrls))) ⌝ }
+// Region r has a ctrl line.
+fn has_line(func: &[u32], work: &[u32], r: usize) -> bool
+    requires { ⌜ Indexed (funcOf (now func)) (now work) ⌝ }
+    requires { ⌜ (r < 128) × (tablesEnd ≤ length (now work)) ⌝ }
+    ensures { λ x. ⌜ x ≡ within r (keys (funcOf (now (func .entry)) .ctrls)) ⌝ }
 {
-    let k = ctrl_total(func);
-    let mut i = s;
-    while i < k {
-        if ctrl_region(func, i) == r {
-            return true;
-        }
-        i += 1;
-    }
-    false
-}
-
-// No region has two ctrl lines.
-fn keys_distinct(func: &[u32]) -> bool
-    requires { ⌜ Tables (now func) ⌝ }
-    ensures { λ x. ⌜ x ≡ distinct (keys (funcOf (now (func .entry)) .ctrls)) ⌝ }
-{
-    let k = ctrl_total(func);
-    let mut i = 0;
-    while i < k {
-        let r = ctrl_region(func, i);
-        if key_after(func, i + 1, r) {
-            return false;
-        }
-        i += 1;
-    }
-    true
+    work[LINES + r] != 0
 }
 
 // Region r is a target of line c.
@@ -112,27 +68,30 @@ fn is_target(func: &[u32], c: usize, r: usize) -> bool
 }
 
 // Region r can be a target.
-fn target_fits(func: &[u32], r: usize) -> bool
-    requires { ⌜ Tables (now func) ⌝ }
+fn target_fits(func: &[u32], work: &[u32], r: usize) -> bool
+    requires { ⌜ Marked childrenAt (childList (funcOf (now func))) (now work) ⌝ }
+    requires { ⌜ (r < 128) × (tablesEnd ≤ length (now work)) ⌝ }
     ensures { λ x. ⌜ x ≡ targetFits (funcOf (now (func .entry))) r ⌝ }
 {
     if r == 0 {
         return false;
     }
-    is_root(func, r)
+    is_root(func, work, r)
 }
 
 // The targets of line c fit.
-fn targets_fit(func: &[u32], c: usize) -> bool
+fn targets_fit(func: &[u32], work: &[u32], c: usize) -> bool
     requires { ⌜ Tables (now func) ⌝ }
     requires { ⌜ c < length (funcOf (now func) .ctrls) ⌝ }
+    requires { ⌜ Named (funcOf (now func)) ⌝ }
+    requires { ⌜ Marked childrenAt (childList (funcOf (now func))) (now work) × (tablesEnd ≤ length (now work)) ⌝ }
     ensures { λ x. ⌜ x ≡ every (targetFits (funcOf (now (func .entry)))) (ctrlLine (funcOf (now (func .entry))) c .1 .to) ⌝ }
 {
     let k = target_count(func, c);
     let mut i = 0;
     while i < k {
         let r = target(func, c, i);
-        if !target_fits(func, r) {
+        if !target_fits(func, work, r) {
             return false;
         }
         i += 1;
@@ -208,12 +167,14 @@ fn kind_fits(kind: CtrlKind, ins: usize, to: usize) -> bool
 }
 
 // What line c says of its way out fits.
-fn ctrl_fits(func: &[u32], c: usize) -> bool
+fn ctrl_fits(func: &[u32], work: &[u32], c: usize) -> bool
     requires { ⌜ Tables (now func) ⌝ }
     requires { ⌜ c < length (funcOf (now func) .ctrls) ⌝ }
+    requires { ⌜ Named (funcOf (now func)) ⌝ }
+    requires { ⌜ Marked childrenAt (childList (funcOf (now func))) (now work) × (tablesEnd ≤ length (now work)) ⌝ }
     ensures { λ x. ⌜ x ≡ ctrlFits (funcOf (now (func .entry))) (ctrlLine (funcOf (now (func .entry))) c .1) ⌝ }
 {
-    if !targets_fit(func, c) {
+    if !targets_fit(func, work, c) {
         return false;
     }
     if !entries_distinct(func, c) {
@@ -230,27 +191,31 @@ fn ctrl_fits(func: &[u32], c: usize) -> bool
 }
 
 // Line c fits, and its region is no child.
-fn line_fits(func: &[u32], c: usize) -> bool
+fn line_fits(func: &[u32], work: &[u32], c: usize) -> bool
     requires { ⌜ Tables (now func) ⌝ }
     requires { ⌜ c < length (funcOf (now func) .ctrls) ⌝ }
+    requires { ⌜ Named (funcOf (now func)) ⌝ }
+    requires { ⌜ Marked childrenAt (childList (funcOf (now func))) (now work) × (tablesEnd ≤ length (now work)) ⌝ }
     ensures { λ x. ⌜ x ≡ lineFits (funcOf (now (func .entry))) (ctrlLine (funcOf (now (func .entry))) c) ⌝ }
 {
     let r = ctrl_region(func, c);
-    if !is_root(func, r) {
+    if !is_root(func, work, r) {
         return false;
     }
-    ctrl_fits(func, c)
+    ctrl_fits(func, work, c)
 }
 
 // Each line does.
-fn lines_fit(func: &[u32]) -> bool
+fn lines_fit(func: &[u32], work: &[u32]) -> bool
     requires { ⌜ Tables (now func) ⌝ }
+    requires { ⌜ Named (funcOf (now func)) ⌝ }
+    requires { ⌜ Marked childrenAt (childList (funcOf (now func))) (now work) × (tablesEnd ≤ length (now work)) ⌝ }
     ensures { λ x. ⌜ x ≡ every (lineFits (funcOf (now (func .entry)))) (funcOf (now (func .entry)) .ctrls) ⌝ }
 {
     let k = ctrl_total(func);
     let mut i = 0;
     while i < k {
-        if !line_fits(func, i) {
+        if !line_fits(func, work, i) {
             return false;
         }
         i += 1;
@@ -260,15 +225,16 @@ fn lines_fit(func: &[u32]) -> bool
 
 // Each of the n roots before word 512 has a ctrl line.
 fn have_ctrls(func: &[u32], work: &[u32], n: usize) -> bool
-    requires { ⌜ Tables (now func) ⌝ }
-    requires { ⌜ (n ≤ 128) × (512 ≤ length (now work)) ⌝ }
+    requires { ⌜ Indexed (funcOf (now func)) (now work) ⌝ }
+    requires { ⌜ Low (funcOf (now func)) (now work) n × (length (funcOf (now func) .regions) ≤ 128) ⌝ }
+    requires { ⌜ (n ≤ 128) × (tablesEnd ≤ length (now work)) ⌝ }
     ensures { λ x. ⌜ x ≡ every (λ r. within r (keys (funcOf (now (func .entry)) .ctrls))) (listed (now (work .entry)) n) ⌝ }
 {
-    let a = 512 - n;
+    let a = ROOTS_END - n;
     let mut i = 0;
     while i < n {
         let r = wide(work[a + i]);
-        if !key_after(func, 0, r) {
+        if !has_line(func, work, r) {
             return false;
         }
         i += 1;
@@ -279,20 +245,21 @@ fn have_ctrls(func: &[u32], work: &[u32], n: usize) -> bool
 // The text in the function slice passes refusal 7.
 pub fn control(func: &[u32], work: &mut [u32]) -> bool
     requires { ⌜ Tables (now func) ⌝ }
-    requires { ⌜ (0 < length (funcOf (now func) .ctrls) → Named (funcOf (now func))) ⌝ }
+    requires { ⌜ Named (funcOf (now func)) ⌝ }
     requires { ⌜ scratchWords ≤ length (now work) ⌝ }
     ensures { λ r. ⌜ r ≡ controlFits (funcOf (now (func .entry))) ⌝ }
     ensures { λ _. ⌜ length (now (work .exit)) ≡ length (now (work .entry)) ⌝ }
 {
-    if !keys_distinct(func) {
+    if !index(func, work) {
         return false;
     }
-    if !lines_fit(func) {
+    mark_nodes(func, work);
+    if !lines_fit(func, work) {
         return false;
     }
     if ctrl_total(func) == 0 {
         return true;
     }
-    let n = reached(func, work);
+    let n = order(func, work);
     have_ctrls(func, work, n)
 }

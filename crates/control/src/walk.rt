@@ -1,40 +1,32 @@
-// The roots that ctrl lines reach, in reverse post-order: a depth-first walk from region 0 that takes targets last to first, with its stack in
-// the work slice. From word 0 on are marks, from word 128 the stack's roots, from word 256 how many of their targets are left, and before word
-// 512 the roots that are done, the last one first.
+// The roots that ctrl lines reach, in reverse post-order: a depth-first walk from region 0 that takes targets last to first. It calls itself for
+// each target that is not marked. Roots that are done stand before word 512 of the work slice, the last one first.
+use crate::tables::MARKS;
+use crate::tables::ctrl_at;
+use crate::tables::index;
 use func::CtrlAt;
-use func::look::ctrl_of;
 use func::look::target;
 use func::look::target_count;
-use func::pools::wide;
 ghost use mathlib.Core.Path.{_≡_};
-ghost use Prim.Native.Nat.{ℕ, _+_, _≤_, _<_};
-ghost use lib.ListN.{length, getD};
+ghost use mathlib.Core.List.{[]};
+ghost use Prim.Native.Nat.{_+_, _-_, _≤_, _<_};
+ghost use lib.ListN.{length, getD, set};
 ghost use Rattle.lifting.specs.Limits.{scratchWords};
 ghost use Rattle.lifting.specs.Order.{roots};
 ghost use Rattle.func.specs.Decode.{funcOf};
 ghost use Rattle.func.specs.Tables.{Tables};
-ghost use Rattle.control.specs.Stack.{ways};
-ghost use Rattle.control.specs.Walk.{Clear, Named, Going, Onward, pushed, listed};
+ghost use Rattle.control.specs.Tables.{marksAt, tablesEnd, Named, Indexed, Marked};
+ghost use Rattle.control.specs.Visit.{rootsEnd, ways, listed, Low, Ready, Visited};
 
-// The first n words are 0.
-fn clear(work: &mut [u32], n: usize)
-    requires { ⌜ n ≤ length (now work) ⌝ }
-    ensures { λ _. ⌜ Clear n (now (work .exit)) ⌝ }
-    ensures { λ _. ⌜ length (now (work .exit)) ≡ length (now (work .entry)) ⌝ }
-{
-    let mut i = 0;
-    while i < n {
-        work[i] = 0;
-        i += 1;
-    }
-}
+pub const ROOTS_END: usize = 512;
 
 // How many targets root r has.
-fn way_count(func: &[u32], r: usize) -> usize
+fn way_count(func: &[u32], work: &[u32], r: usize) -> usize
     requires { ⌜ Tables (now func) ⌝ }
+    requires { ⌜ Indexed (funcOf (now func)) (now work) ⌝ }
+    requires { ⌜ (r < 128) × (tablesEnd ≤ length (now work)) ⌝ }
     ensures { λ x. ⌜ x ≡ length (ways (funcOf (now (func .entry))) r) ⌝ }
 {
-    let c = ctrl_of(func, r);
+    let c = ctrl_at(func, work, r);
     match c {
         CtrlAt::At(i) => target_count(func, i),
         CtrlAt::Nothing => 0,
@@ -42,76 +34,93 @@ fn way_count(func: &[u32], r: usize) -> usize
 }
 
 // Target i of root r.
-fn way(func: &[u32], r: usize, i: usize) -> usize
+fn way(func: &[u32], work: &[u32], r: usize, i: usize) -> usize
     requires { ⌜ Tables (now func) ⌝ }
+    requires { ⌜ Indexed (funcOf (now func)) (now work) ⌝ }
+    requires { ⌜ (r < 128) × (tablesEnd ≤ length (now work)) ⌝ }
     requires { ⌜ i < length (ways (funcOf (now func)) r) ⌝ }
     ensures { λ x. ⌜ x ≡ getD (ways (funcOf (now (func .entry))) r) i 0 ⌝ }
 {
-    let c = ctrl_of(func, r);
+    let c = ctrl_at(func, work, r);
     match c {
         CtrlAt::At(k) => target(func, k, i),
         CtrlAt::Nothing => 0,
     }
 }
 
-// Root r is marked, and stands on a stack of d others with all of its targets left.
-fn push(func: &[u32], r: usize, d: usize, work: &mut [u32])
-    requires { ⌜ Tables (now func) ⌝ }
-    requires { ⌜ Named (funcOf (now func)) ⌝ }
-    requires { ⌜ (r < 128) × (d < 128) × (512 ≤ length (now work)) ⌝ }
-    ensures { λ _. ⌜ now (work .exit) ≡ pushed (funcOf (now (func .entry))) r d (now (work .entry)) ⌝ }
-    ensures { λ _. ⌜ length (now (work .exit)) ≡ length (now (work .entry)) ⌝ }
+// Root r is marked.
+fn set_mark(work: &mut [u32], r: usize)
+    requires { ⌜ (r < 128) × (tablesEnd ≤ length (now work)) ⌝ }
+    ensures { λ _. ⌜ now (work .exit) ≡ set (now (work .entry)) (marksAt + r) 1 ⌝ }
 {
-    let n = way_count(func, r);
-    work[r] = 1;
-    work[128 + d] = r as u32;
-    work[256 + d] = n as u32;
+    work[MARKS + r] = 1;
 }
 
-// The root on top of e others takes its next target, which goes on the stack unless it was seen. How many stand there then.
-fn advance(func: &[u32], e: usize, work: &mut [u32]) -> usize
-    requires { ⌜ Tables (now func) ⌝ }
-    requires { ⌜ Named (funcOf (now func)) ⌝ }
-    requires { ⌜ Going (funcOf (now func)) (now work) (e + 1) ⌝ }
-    requires { ⌜ 0 < getD (now work) (256 + e) 0 ⌝ }
-    ensures { λ x. ⌜ Onward (funcOf (now (func .entry))) (now (work .entry)) (e + 1) (now (work .exit)) x ⌝ }
+// Root r's mark.
+fn mark_of(work: &[u32], r: usize) -> u32
+    requires { ⌜ (r < 128) × (tablesEnd ≤ length (now work)) ⌝ }
+    ensures { λ m. ⌜ m ≡ getD (now (work .entry)) (marksAt + r) 0 ⌝ }
+{
+    work[MARKS + r]
+}
+
+// Root r is done, after n others.
+fn leave(work: &mut [u32], n: usize, r: usize) -> usize
+    requires { ⌜ (n < 128) × (r < 128) × (tablesEnd ≤ length (now work)) ⌝ }
+    ensures { λ m. ⌜ m ≡ n + 1 ⌝ }
+    ensures { λ _. ⌜ now (work .exit) ≡ set (now (work .entry)) (rootsEnd - 1 - n) r ⌝ }
+{
+    work[ROOTS_END - 1 - n] = r as u32;
+    n + 1
+}
+
+// Walks from root r, which is not marked, with n roots done: how many are done then.
+fn visit(func: &[u32], work: &mut [u32], r: usize, n: usize) -> usize
+    requires { ⌜ Ready (now func) (now work) r n ⌝ }
+    ensures { λ m. ⌜ Visited (funcOf (now (func .entry))) (now (work .entry)) r n (now (work .exit)) m ⌝ }
     ensures { λ _. ⌜ length (now (work .exit)) ≡ length (now (work .entry)) ⌝ }
 {
-    let r = wide(work[128 + e]);
-    let n = work[256 + e] - 1;
-    let t = way(func, r, wide(n));
-    let seen = work[t];
-    work[256 + e] = n;
-    if seen == 1 {
-        return e + 1;
+    set_mark(work, r);
+    let mut at = n;
+    let mut i = way_count(func, work, r);
+    while 0 < i {
+        i -= 1;
+        let t = way(func, work, r, i);
+        if mark_of(work, t) == 0 {
+            at = visit(func, work, t, at);
+        }
     }
-    push(func, t, e + 1, work);
-    e + 2
+    leave(work, at, r)
 }
 
-// The roots: how many they are. They stand before word 512 of the work slice.
+// The roots, where the table of ctrl lines stands and none is marked: how many they are.
+pub fn order(func: &[u32], work: &mut [u32]) -> usize
+    requires { ⌜ Tables (now func) ⌝ }
+    requires { ⌜ Named (funcOf (now func)) ⌝ }
+    requires { ⌜ 0 < length (funcOf (now func) .regions) ⌝ }
+    requires { ⌜ Indexed (funcOf (now func)) (now work) ⌝ }
+    requires { ⌜ Marked marksAt [] (now work) × (tablesEnd ≤ length (now work)) ⌝ }
+    ensures { λ n. ⌜ listed (now (work .exit)) n ≡ roots (funcOf (now (func .entry))) ⌝ }
+    ensures { λ n. ⌜ n ≤ length (funcOf (now (func .entry)) .regions) ⌝ }
+    ensures { λ n. ⌜ Low (funcOf (now (func .entry))) (now (work .exit)) n ⌝ }
+    ensures { λ _. ⌜ Indexed (funcOf (now (func .entry))) (now (work .exit)) ⌝ }
+    ensures { λ _. ⌜ length (now (work .exit)) ≡ length (now (work .entry)) ⌝ }
+{
+    visit(func, work, 0, 0)
+}
+
+// The roots: how many they are. They stand before word 512 of the work slice, and the table of ctrl lines by region stands there too.
 pub fn reached(func: &[u32], work: &mut [u32]) -> usize
     requires { ⌜ Tables (now func) ⌝ }
     requires { ⌜ Named (funcOf (now func)) ⌝ }
+    requires { ⌜ 0 < length (funcOf (now func) .regions) ⌝ }
     requires { ⌜ scratchWords ≤ length (now work) ⌝ }
     ensures { λ n. ⌜ listed (now (work .exit)) n ≡ roots (funcOf (now (func .entry))) ⌝ }
     ensures { λ n. ⌜ n ≤ length (funcOf (now (func .entry)) .regions) ⌝ }
+    ensures { λ n. ⌜ Low (funcOf (now (func .entry))) (now (work .exit)) n ⌝ }
+    ensures { λ _. ⌜ Indexed (funcOf (now (func .entry))) (now (work .exit)) ⌝ }
     ensures { λ _. ⌜ length (now (work .exit)) ≡ length (now (work .entry)) ⌝ }
 {
-    clear(work, 128);
-    push(func, 0, 0, work);
-    let mut d = 1;
-    let mut m = 0;
-    while 0 < d {
-        let e = d - 1;
-        if work[256 + e] == 0 {
-            let r = work[128 + e];
-            work[511 - m] = r;
-            m += 1;
-            d = e;
-        } else {
-            d = advance(func, e, work);
-        }
-    }
-    m
+    index(func, work);
+    order(func, work)
 }

@@ -1,6 +1,9 @@
--- Document 01: 'A table fixes the opcodes'. What src/lib.rt's constant table holds, and the opcode of each kind of instruction. Assumes nothing.
+-- Document 01: 'A table fixes the opcodes'. What src/lib.rt's constant table holds, the opcode of each kind of instruction, and whether a
+-- number is one of the table's. Assumes nothing.
+use mathlib.Core.Bool.{Bool, false, _||_}
 use mathlib.Core.List.{List, [], _∷_}
 use Prim.Native.Nat.{ℕ}
+use lib.Dec.{eqb}
 use lib.ListN.{getD}
 use Rattle.opcodes.specs.declared.InstKind.{InstKind}
 use Rattle.opcodes.specs.declared.InstKind.the-variants.{ExtInst, ConstantTrue, Function, FunctionParameter, FunctionEnd, FunctionCall, Phi, LoopMerge, SelectionMerge, Label, Branch, BranchConditional, Return, ReturnValue, Unreachable}
@@ -30,3 +33,11 @@ placeOf Unreachable = 14
 
 abbrev pub opcodeOf : InstKind → ℕ
 opcodeOf k = getD table (placeOf k) 0
+
+-- a number stands in a list, and in the table
+abbrev pub among : ℕ → List ℕ → Bool
+among n [] = false
+among n (x ∷ l) = eqb n x || among n l
+
+abbrev pub inTable : ℕ → Bool
+inTable n = among n table

@@ -1,7 +1,7 @@
 // The opcodes that lifting itself writes or tests: document 01's table, from instruction kind to SPIR-V opcode (spirt's spec.rs).
 ghost use mathlib.Core.Path.{_≡_};
 ghost use Prim.Native.Nat.{_<_};
-ghost use Rattle.opcodes.specs.Table.{placeOf, opcodeOf};
+ghost use Rattle.opcodes.specs.Table.{placeOf, opcodeOf, inTable};
 
 // The instruction kinds of the table, under the names of the SPIR-V Specification.
 pub enum InstKind {
@@ -69,4 +69,18 @@ pub fn opcode(kind: InstKind) -> u32
     ensures { λ r. ⌜ r ≡ opcodeOf kind ⌝ }
 {
     OPCODES[place(kind)]
+}
+
+// A number is one of the table's opcodes.
+pub fn in_table(n: u32) -> bool
+    ensures { λ r. ⌜ r ≡ inTable n ⌝ }
+{
+    let mut i = 0;
+    while i < 15 {
+        if n == OPCODES[i] {
+            return true;
+        }
+        i += 1;
+    }
+    false
 }

@@ -1,14 +1,17 @@
 -- What the proofs of this crate cite, over plain variables. Assumes nothing.
 use mathlib.Core.Path.{_≡_, refl, sym, ap, subst, subst⁻¹, _∙_}
 use mathlib.Core.Bool.{Bool, true, false, _&&_, _||_}
-use mathlib.Core.List.{List, []}
+use mathlib.Core.List.{List, [], _∷_}
 use Prim.Native.Nat.{ℕ, zero, suc, _%_, _≤_, _<_}
+use native.Mathlib.Decide.{ℕ-discrete}
 use native.Mathlib.Omega.{arith}
 use lib.Dec.{ltb, eqb, lit<}
 use lib.ListN.{length, getD, length-map, List·getD-map}
 use borrow.Author.Tests.{lt-ltb, le-ltb, eq-eqb, ne-eqb}
 use Rattle.func.specs.declared.Val.{Val}
+use Rattle.opcodes.specs.Table.{among}
 use Rattle.lifting.specs.Limits.{scratchWords}
+use Rattle.lifting.specs.Lists.{choose, within}
 use Rattle.func.specs.Layout.{poolTotal, consts, entryRoom}
 use Rattle.func.specs.Store.{count, view}
 use Rattle.func.specs.Decode.{numberOf}
@@ -85,3 +88,12 @@ callee-rest (suc k) a n = refl
 pub op-inst-rest : (k a : ℕ) → (k ≡ 0 → ⊥) → true ≡ opInstTest k a
 op-inst-rest zero a n = absurd (n refl)
 op-inst-rest (suc k) a n = refl
+
+-- a number stands in a list: the opcode table's test is the definitions'
+one-more : {n x : ℕ} {b c : Bool} (d : Dec (n ≡ x)) → b ≡ c → (eqb n x || b) ≡ choose d true c
+one-more {n} {x} {b} (yes e) p = ap (λ (t : Bool). t || b) (eq-eqb n x e)
+one-more {n} {x} {b} (no e) p = ap (λ (t : Bool). t || b) (ne-eqb n x e) ∙ p
+
+pub among-within : (n : ℕ) (l : List ℕ) → among n l ≡ within n l
+among-within n [] = refl
+among-within n (x ∷ l) = one-more (ℕ-discrete n x) (among-within n l)

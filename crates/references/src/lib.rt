@@ -18,6 +18,8 @@ use func::TARGETS;
 use func::VALUES;
 use func::count;
 use func::most;
+use func::rows::head_ret;
+use func::rows::head_type;
 ghost use mathlib.Core.Path.{_≡_};
 ghost use mathlib.Core.Bool.{true, _&&_};
 ghost use Prim.Native.Nat.{_≤_, _<_};
@@ -100,8 +102,8 @@ fn ids_given(func: &[u32]) -> bool
     requires { ⌜ Ready (now func) ⌝ }
     ensures { λ r. ⌜ r ≡ idsTest (now (func .entry)) ⌝ }
 {
-    let a = 0 < func[1];
-    let b = 0 < func[2];
+    let a = 0 < head_ret(func);
+    let b = 0 < head_type(func);
     let c = all_hold(func, Rule::ConstId);
     let d = all_hold(func, Rule::ParamType);
     let e = all_hold(func, Rule::DeclType);

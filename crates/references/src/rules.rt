@@ -14,16 +14,22 @@ use func::count;
 use func::look::imm;
 use func::look::value;
 use func::pools::wide;
-use func::pools::word;
+use func::rows::row_const_id;
+use func::rows::row_const_opcode;
+use func::rows::row_decl_type;
 use func::rows::row_ins;
+use func::rows::row_op_first;
+use func::rows::row_op_kind;
+use func::rows::row_opcode;
 use func::rows::row_outs;
+use func::rows::row_param_type;
 use func::rows::row_type;
+use opcodes::in_table;
 ghost use mathlib.Core.Path.{_≡_};
 ghost use mathlib.Core.Bool.{_&&_};
 ghost use mathlib.Core.List.{[]};
 ghost use Prim.Native.Nat.{_+_, _<_};
 ghost use lib.ListN.{getD, drop};
-ghost use Rattle.opcodes.specs.Table.{table};
 ghost use Rattle.lifting.specs.Lists.{within};
 ghost use Rattle.lifting.specs.Ast.{regionInput, nodeOutput, dataInstOutput};
 ghost use Rattle.lifting.specs.References.{immFits};
@@ -38,39 +44,6 @@ pub fn both(a: bool, b: bool) -> bool
     ensures { λ r. ⌜ r ≡ (a && b) ⌝ }
 {
     if a { b } else { false }
-}
-
-// The opcode table (crate opcodes).
-const TABLE: [u32; 15] = [
-    12,
-    41,
-    54,
-    55,
-    56,
-    57,
-    245,
-    246,
-    247,
-    248,
-    249,
-    250,
-    253,
-    254,
-    255,
-];
-
-// An opcode is one of the table's.
-fn in_table(n: u32) -> bool
-    ensures { λ r. ⌜ r ≡ within n table ⌝ }
-{
-    let mut i = 0;
-    while i < 15 {
-        if n == TABLE[i] {
-            return true;
-        }
-        i += 1;
-    }
-    false
 }
 
 // An INST's opcode is at most 65,535 and none of the table's.
@@ -175,14 +148,14 @@ fn holds(func: &[u32], rule: Rule, i: usize) -> bool
 {
     match rule {
         Rule::Named => named(func, value(func, i)),
-        Rule::ConstId => 0 < word(func, CONSTS, i, 0),
-        Rule::ParamType => 0 < word(func, PARAMS, i, 1),
-        Rule::DeclType => 0 < word(func, DECLS, i, 1),
-        Rule::Callee => callee_given(word(func, OPS, i, 2), word(func, OPS, i, 3)),
-        Rule::ConstOpcode => word(func, CONSTS, i, 1) <= 65535,
+        Rule::ConstId => 0 < row_const_id(func, i),
+        Rule::ParamType => 0 < row_param_type(func, i),
+        Rule::DeclType => 0 < row_decl_type(func, i),
+        Rule::Callee => callee_given(row_op_kind(func, i), row_op_first(func, i)),
+        Rule::ConstOpcode => row_const_opcode(func, i) <= 65535,
         Rule::ImmFits => imm_fits(imm(func, i)),
-        Rule::NodeInst => opcode_fits(word(func, NODES, i, 1)),
-        Rule::OpInst => op_inst_fits(word(func, OPS, i, 2), word(func, OPS, i, 3)),
+        Rule::NodeInst => opcode_fits(row_opcode(func, i)),
+        Rule::OpInst => op_inst_fits(row_op_kind(func, i), row_op_first(func, i)),
     }
 }
 
@@ -209,10 +182,10 @@ fn repeats(func: &[u32], i: usize) -> bool
     ensures { λ r. ⌜ r ≡ within (getD (constIds (now (func .entry))) i 0) (drop (i + 1) (constIds (now (func .entry)))) ⌝ }
 {
     let n = wide(count(func, CONSTS));
-    let x = word(func, CONSTS, i, 0);
+    let x = row_const_id(func, i);
     let mut j = i + 1;
     while j < n {
-        if x == word(func, CONSTS, j, 0) {
+        if x == row_const_id(func, j) {
             return true;
         }
         j += 1;

@@ -9,13 +9,13 @@ use func::OP_REFS;
 use func::OPS;
 use func::REGIONS;
 use func::count;
-use func::pools::run_at;
 use func::pools::wide;
-use func::pools::word;
 use func::rows::row_child;
+use func::rows::row_child_at;
 use func::rows::row_children;
 use func::rows::row_node;
 use func::rows::row_nodes;
+use func::rows::row_ref;
 ghost use mathlib.Core.Path.{_≡_};
 ghost use Prim.Native.Nat.{ℕ, _+_, _≤_, _<_};
 ghost use lib.ListN.{length, getD};
@@ -46,7 +46,7 @@ fn mark_run(func: &[u32], k: usize, at: usize, n: usize, v: u32, work: &mut [u32
 {
     let mut i = 0;
     while i < n {
-        let x = wide(word(func, k, at + i, 0));
+        let x = row_ref(func, k, at + i);
         work[x] = v;
         i += 1;
     }
@@ -60,7 +60,7 @@ fn all_fresh(func: &[u32], k: usize, n: usize, work: &mut [u32]) -> bool
 {
     let mut i = 0;
     while i < n {
-        let x = wide(word(func, k, i, 0));
+        let x = row_ref(func, k, i);
         if work[x] == 1 {
             return false;
         }
@@ -161,7 +161,7 @@ fn adopt(func: &[u32], r: usize, work: &mut [u32])
         mark_run(
             func,
             CHILD_REFS,
-            run_at(func, NODES, x, 5, 0),
+            row_child_at(func, x, 0),
             row_children(func, x),
             v,
             work,

@@ -1,6 +1,7 @@
 -- `control::line_fits` meets its contract. Assumes nothing.
 use mathlib.Core.Path.{sym, ap, _∙_}
 use Prim.Native.Nat.{_-_}
+use native.Mathlib.Omega.{arith}
 use borrow.Author.Tests.{not-true, not-false}
 use Rattle.func.specs.Decode.{funcOf}
 use Rattle.func.specs.Tables.{ctrlLine}
@@ -14,16 +15,20 @@ ctrl-region-requires : tie.Need-ctrl-region-requires
 ctrl-region-requires c κs = search needs
 
 is-root-requires : tie.Need-is-root-requires
-is-root-requires c κs = search needs
+is-root-requires c κs =
+    let s = c .before .before .before in
+    let h = s .pre .1 .1 .0 in
+    let m = s .pre .1 .1 .1 in
+    (m .0, (omega (arith, c .ctrl-region .ensures, h .line (s .args .c) (s .pre .1 .0), h .few), m .1))
 
 returns : tie.Need-returns
-returns c = let a = c .before .before .before .before .args in line-child (funcOf (a .func .now)) (ctrlLine (funcOf (a .func .now)) (a .c)) (ap (isRoot (funcOf (a .func .now))) (sym (c .before .before .ctrl-region .ensures)) ∙ (sym (c .before .is-root .ensures) ∙ not-true (c .before .is-root .result) (c .if1 .taken)))
+returns c = let a = c .before .before .before .before .before .args in line-child (funcOf (a .func .now)) (ctrlLine (funcOf (a .func .now)) (a .c)) (ap (isRoot (funcOf (a .func .now))) (sym (c .before .before .ctrl-region .ensures)) ∙ (sym (c .before .is-root .ensures) ∙ not-true (c .before .is-root .result) (c .if1 .taken)))
 
 ctrl-fits-requires : tie.Need-ctrl-fits-requires
 ctrl-fits-requires c κs = search needs
 
 returns-2 : tie.Need-returns-2
-returns-2 c = let a = c .before .before .before .before .before .args in line-is (funcOf (a .func .now)) (ctrlLine (funcOf (a .func .now)) (a .c)) (ap (isRoot (funcOf (a .func .now))) (sym (c .before .before .before .ctrl-region .ensures)) ∙ (sym (c .before .before .is-root .ensures) ∙ not-false (c .before .before .is-root .result) (c .before .if1 .left))) (c .ctrl-fits .ensures)
+returns-2 c = let a = c .before .before .before .before .before .before .args in line-is (funcOf (a .func .now)) (ctrlLine (funcOf (a .func .now)) (a .c)) (ap (isRoot (funcOf (a .func .now))) (sym (c .before .before .before .ctrl-region .ensures)) ∙ (sym (c .before .before .is-root .ensures) ∙ not-false (c .before .before .is-root .result) (c .before .if1 .left))) (c .ctrl-fits .ensures)
 
 pub line-fits-spec : {M : Type 1} → statement M
 line-fits-spec =

@@ -7,10 +7,10 @@ use Rattle.control.proofs.target_fits.Tie as tie
 use Rattle.control.proofs.Laws.{fits-zero, fits-root}
 
 returns : tie.Need-returns
-returns c = fits-zero (funcOf (c .before .before .args .func .now)) (c .before .before .args .r) (c .if1 .taken)
+returns c = fits-zero (funcOf (c .before .before .before .args .func .now)) (c .before .before .before .args .r) (c .if1 .taken)
 
 returns-2 : tie.Need-returns-2
-returns-2 c = let s = c .before .before .before in fits-root (funcOf (s .args .func .now)) (s .args .r) (c .before .if1 .left) (c .is-root .ensures)
+returns-2 c = let s = c .before .before .before .before in fits-root (funcOf (s .args .func .now)) (s .args .r) (c .before .if1 .left) (c .is-root .ensures)
 
 pub target-fits-spec : {M : Type 1} → statement M
 target-fits-spec =

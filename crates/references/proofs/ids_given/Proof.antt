@@ -12,8 +12,8 @@ pub ids-given-spec : {M : Type 1} → statement M
 ids-given-spec =
     tie.close
     (tie.spec
-    (λ c. search needs)
-    (λ c. search needs)
+    (λ c κs. c .before .pre .size)
+    (λ c κs. c .before .before .pre .size)
     (λ c κs. search needs)
     (λ c κs. search needs)
     (λ c κs. search needs)

@@ -3,7 +3,6 @@ use mathlib.Core.Path.{_≡_, refl, sym, _∙_}
 use Prim.Native.Nat.{_≤_, _<_, _+_, _-_, _/_}
 use native.Mathlib.Omega.{arith}
 use lib.ListN.{length}
-use lib.Dec.{lit<}
 use borrow.Author.Needs.{needs}
 use Rattle.lifting.specs.Lists.{gather}
 use Rattle.func.specs.Layout.{nodeRefs, nodes, regions}
@@ -58,8 +57,8 @@ row-node-requires c κs =
       (omega (arith, c .before .before .row-nodes .ensures), ref-in c),
     )
 
-run-at-requires : tie.Need-run-at-requires Inv-loop μ-loop
-run-at-requires c κs = (node c, (lit< tt, omega arith))
+row-child-at-requires : tie.Need-row-child-at-requires Inv-loop μ-loop
+row-child-at-requires c κs = (node c, omega arith)
 
 row-children-requires : tie.Need-row-children-requires Inv-loop μ-loop
 row-children-requires c κs = node (c .before)
@@ -67,7 +66,7 @@ row-children-requires c κs = node (c .before)
 mark-run-requires : tie.Need-mark-run-requires Inv-loop μ-loop
 mark-run-requires c κs =
     let s = c .before .before .before .before .before .before .before .before .before in
-    kids-run (s .args .func .now) (s .pre .0) (c .before .before .before .row-node .result) (c .before .before .run-at .result) (c .before .row-children .result) (length (c .before .before .before .before .before .loop .work)) (node (c .before .before .before)) (c .before .before .run-at .ensures) (c .before .row-children .ensures)
+    kids-run (s .args .func .now) (s .pre .0) (c .before .before .before .row-node .result) (c .before .before .row-child-at .result) (c .before .row-children .result) (length (c .before .before .before .before .before .loop .work)) (node (c .before .before .before)) (c .before .before .row-child-at .ensures) (c .before .row-children .ensures)
     (omega (arith, s .pre .1 .1, c .before .before .before .before .before .loop .inv .1))
 
 loop-less : tie.Need-loop-less Inv-loop μ-loop
@@ -80,7 +79,7 @@ loop-again c =
     let q = word regions (a .func .now) (a .r) 1 / 4096 in
     let t = c .before .before .mark-run in
     let x = c .before .before .before .before .before .before .row-node in
-    let m = c .before .before .before .before .before .run-at in
+    let m = c .before .before .before .before .before .row-child-at in
     let k = c .before .before .before .before .row-children in (
       omega arith,
       t .ensures .1 ∙ l .inv .1,
@@ -108,7 +107,7 @@ adopt-spec =
     row-nodes-requires
     loop-holds
     row-node-requires
-    run-at-requires
+    row-child-at-requires
     row-children-requires
     mark-run-requires
     (λ c. search needs)

@@ -19,13 +19,13 @@ loop-holds : tie.Need-loop-holds Inv-loop μ-loop
 loop-holds c = let a = c .before .before .args in (omega arith, refl, ap (λ l. fresh l (a .work .now)) (numbers-first (a .k) (a .func .now) 0 0 (a .n) refl))
 
 -- the entry's number names a word
-low : (c : tie.After-wide Inv-loop μ-loop) → c .wide .result < length (c .before .before .before .loop .work)
+low : (c : tie.After-row-ref Inv-loop μ-loop) → c .row-ref .result < length (c .before .before .loop .work)
 low c =
-    let s = c .before .before .before .before .before .before in
-    omega (arith, c .wide .ensures, c .before .word .ensures, s .pre .low (c .before .before .before .loop .i) (omega arith) (omega arith))
+    let s = c .before .before .before .before .before in
+    omega (arith, c .row-ref .ensures, s .pre .low (c .before .before .loop .i) (omega arith) (omega arith))
 
-word-requires : tie.Need-word-requires Inv-loop μ-loop
-word-requires c κs = let s = c .before .before .before .before in (s .pre .read _ (omega arith) (omega arith), s .pre .first)
+row-ref-requires : tie.Need-row-ref-requires Inv-loop μ-loop
+row-ref-requires c κs = let s = c .before .before .before .before in (s .pre .read _ (omega arith) (omega arith), s .pre .first)
 
 mul-if1 : tie.Need-mul-if1 Inv-loop μ-loop
 mul-if1 c = omega (arith, low c)
@@ -34,14 +34,14 @@ slice-read-if1 : tie.Need-slice-read-if1 Inv-loop μ-loop
 slice-read-if1 c = low (c .before)
 
 same-length : tie.Need-same-length Inv-loop μ-loop
-same-length c = c .before .before .before .before .before .loop .inv .1
+same-length c = c .before .before .before .before .loop .inv .1
 
 returns : tie.Need-returns Inv-loop μ-loop
 returns c =
     let b = c .before .before in
-    let l = b .before .before .before .loop in
-    let a = b .before .before .before .before .before .before .args in
-    (sym (l .inv .2 ∙ fresh-stop (a .k) (a .func .now) (l .i) (l .i + 1) (l .i) (a .n) (b .wide .result) (l .work) (omega arith) refl (b .wide .ensures ∙ b .before .word .ensures) (c .if1 .taken)), l .inv .1)
+    let l = b .before .before .loop in
+    let a = b .before .before .before .before .before .args in
+    (sym (l .inv .2 ∙ fresh-stop (a .k) (a .func .now) (l .i) (l .i + 1) (l .i) (a .n) (b .row-ref .result) (l .work) (omega arith) refl (b .row-ref .ensures) (c .if1 .taken)), l .inv .1)
 
 mul-work : tie.Need-mul-work Inv-loop μ-loop
 mul-work c = omega (arith, low (c .before .before))
@@ -52,12 +52,12 @@ slice-write-work c = low (c .before .before)
 loop-again : tie.Need-loop-again Inv-loop μ-loop
 loop-again c =
     let b = c .before .before in
-    let l = b .before .before .before .loop in
-    let a = b .before .before .before .before .before .before .args in (
+    let l = b .before .before .loop in
+    let a = b .before .before .before .before .before .args in (
       omega arith,
       simp length-set (l .inv .1),
       l .inv .2
-          ∙ fresh-turn (a .k) (a .func .now) (l .i) (l .i + 1) (l .i) (a .n) (b .wide .result) (l .work) (omega arith) refl (b .wide .ensures ∙ b .before .word .ensures) (c .if1 .left),
+          ∙ fresh-turn (a .k) (a .func .now) (l .i) (l .i + 1) (l .i) (a .n) (b .row-ref .result) (l .work) (omega arith) refl (b .row-ref .ensures) (c .if1 .left),
     )
 
 same-length-2 : tie.Need-same-length-2 Inv-loop μ-loop
@@ -76,8 +76,7 @@ all-fresh-spec =
     Inv-loop
     μ-loop
     loop-holds
-    word-requires
-    (λ c κs. search needs)
+    row-ref-requires
     mul-if1
     slice-read-if1
     same-length

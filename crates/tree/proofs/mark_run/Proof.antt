@@ -24,16 +24,16 @@ loop-holds c = let a = c .before .before .args in (omega arith, refl, ap (λ l. 
 reads-in : (c : tie.In-loop Inv-loop μ-loop) → Within (c .before .before .before .before .args .k) (c .before .before .before .before .args .func .now) (c .before .before .before .before .args .at + c .before .loop .i)
 reads-in c = c .before .before .before .before .pre .read _ (omega arith) (omega arith)
 
-low : (c : tie.After-wide Inv-loop μ-loop) → c .wide .result < length (c .before .before .before .loop .work)
+low : (c : tie.After-row-ref Inv-loop μ-loop) → c .row-ref .result < length (c .before .before .loop .work)
 low c =
-    let s = c .before .before .before .before .before .before in
-    omega (arith, c .wide .ensures, c .before .word .ensures, s .pre .low (s .args .at + c .before .before .before .loop .i) (omega arith) (omega arith))
+    let s = c .before .before .before .before .before in
+    omega (arith, c .row-ref .ensures, s .pre .low (s .args .at + c .before .before .loop .i) (omega arith) (omega arith))
 
-add-word : tie.Need-add-word Inv-loop μ-loop
-add-word c = let s = c .before .before .before .before in omega (arith, reads-in c .below, reads-in c .fits, entry-room (s .args .k), inside (s .args .k) (reads-in c .pool) .room)
+add-row-ref : tie.Need-add-row-ref Inv-loop μ-loop
+add-row-ref c = let s = c .before .before .before .before in omega (arith, reads-in c .below, reads-in c .fits, entry-room (s .args .k), inside (s .args .k) (reads-in c .pool) .room)
 
-word-requires : tie.Need-word-requires Inv-loop μ-loop
-word-requires c κs = (reads-in c, c .before .before .before .before .pre .first)
+row-ref-requires : tie.Need-row-ref-requires Inv-loop μ-loop
+row-ref-requires c κs = (reads-in c, c .before .before .before .before .pre .first)
 
 mul-work : tie.Need-mul-work Inv-loop μ-loop
 mul-work c = omega (arith, low c)
@@ -43,12 +43,12 @@ slice-write-work c = low c
 
 loop-again : tie.Need-loop-again Inv-loop μ-loop
 loop-again c =
-    let l = c .before .before .before .loop in
-    let a = c .before .before .before .before .before .before .args in (
+    let l = c .before .before .loop in
+    let a = c .before .before .before .before .before .args in (
       omega arith,
       simp length-set (l .inv .1),
       l .inv .2
-          ∙ mark-turn (a .k) (a .func .now) (a .at + l .i) (a .at + (l .i + 1)) (l .i) (a .n) (c .wide .result) (l .work) (omega arith) (omega arith) (c .wide .ensures ∙ c .before .word .ensures) (a .v),
+          ∙ mark-turn (a .k) (a .func .now) (a .at + l .i) (a .at + (l .i + 1)) (l .i) (a .n) (c .row-ref .result) (l .work) (omega arith) (omega arith) (c .row-ref .ensures) (a .v),
     )
 
 same-length : tie.Need-same-length Inv-loop μ-loop
@@ -67,9 +67,8 @@ mark-run-spec =
     Inv-loop
     μ-loop
     loop-holds
-    add-word
-    word-requires
-    (λ c κs. search needs)
+    add-row-ref
+    row-ref-requires
     mul-work
     slice-write-work
     (λ c. search needs)

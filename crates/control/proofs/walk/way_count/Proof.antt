@@ -3,38 +3,38 @@ use mathlib.Core.Path.{sym, ap, _∙_}
 use Prim.Native.Nat.{_-_}
 use lib.ListN.{length}
 use Rattle.func.specs.Decode.{funcOf}
-use Rattle.control.proofs.Laws.{here, here-ways, no-ways}
+use Rattle.control.proofs.Turns.{here, here-ways, no-ways}
 use borrow.Author.Needs.{needs}
 use Rattle.control.proofs.walk.way_count.Statement.{statement}
 use Rattle.control.proofs.walk.way_count.Tie as tie
 
-ctrl-of-requires : tie.Need-ctrl-of-requires
-ctrl-of-requires c κs = search needs
+ctrl-at-requires : tie.Need-ctrl-at-requires
+ctrl-at-requires c κs = search needs
 
 enum-known-c : tie.Need-enum-known-c
 enum-known-c c = search needs
 
 target-count-requires : tie.Need-target-count-requires
 target-count-requires c κs =
-    let a = c .before .before .before .before .before in
-    let h = here (funcOf (a .args .func .now)) (a .args .r) (c .before .c .given .1) (c .before .before .before .ctrl-of .ensures) in
-    (a .pre, h .below)
+    let a = c .before .before .before .before .before .before in
+    let h = here (funcOf (a .args .func .now)) (a .args .r) (c .before .c .given .1) (c .before .before .before .ctrl-at .ensures) in
+    (a .pre .0, h .below)
 
 enum-told : tie.Need-enum-told
 enum-told c = search needs
 
 returns : tie.Need-returns
 returns c =
-    let a = c .before .before .before .before .before .before in
-    let h = here (funcOf (a .args .func .now)) (a .args .r) (c .before .before .c .given .1) (c .before .before .before .before .ctrl-of .ensures) in
+    let a = c .before .before .before .before .before .before .before in
+    let h = here (funcOf (a .args .func .now)) (a .args .r) (c .before .before .c .given .1) (c .before .before .before .before .ctrl-at .ensures) in
     c .target-count .ensures ∙ ap length (sym (here-ways (funcOf (a .args .func .now)) (a .args .r) h))
 
 returns-2 : tie.Need-returns-2
 returns-2 c =
-    let a = c .before .before .before .before in
-    sym (ap length (no-ways (funcOf (a .args .func .now)) (a .args .r) (c .enum-told .given .1) (c .before .before .ctrl-of .ensures)))
+    let a = c .before .before .before .before .before in
+    sym (ap length (no-ways (funcOf (a .args .func .now)) (a .args .r) (c .enum-told .given .1) (c .before .before .ctrl-at .ensures)))
 
 pub way-count-spec : {M : Type 1} → statement M
 way-count-spec =
     tie.close
-    (tie.spec ctrl-of-requires enum-known-c target-count-requires enum-told returns returns-2)
+    (tie.spec ctrl-at-requires enum-known-c target-count-requires enum-told returns returns-2)

@@ -3,14 +3,16 @@ use mathlib.Core.Path.{ap, _∙_}
 use mathlib.Core.Bool.{Bool, not, _&&_}
 use lib.Dec.{leb}
 use borrow.Author.Needs.{needs}
+use Rattle.opcodes.specs.Table.{table}
 use Rattle.lifting.specs.Limits.{maxOpcode}
 use Rattle.references.specs.Test.{opcodeFits}
+use Rattle.references.proofs.Laws.{among-within}
 use Rattle.references.proofs.rules.opcode_fits.Statement.{statement}
 use Rattle.references.proofs.rules.opcode_fits.Tie as tie
 
 returns : tie.Need-returns
 unfolding opcodeFits
-returns c = c .both .ensures ∙ ap (λ (b : Bool). leb (c .before .before .args .n) maxOpcode && not b) (c .before .in-table .ensures)
+returns c = c .both .ensures ∙ ap (λ (b : Bool). leb (c .before .before .args .n) maxOpcode && not b) (c .before .in-table .ensures ∙ among-within (c .before .before .args .n) table)
 
 pub opcode-fits-spec : {M : Type 1} → statement M
 opcode-fits-spec =

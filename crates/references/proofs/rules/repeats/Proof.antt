@@ -21,21 +21,21 @@ Inv-loop func i n x j₀ j = (n ≡ count consts func) × (x ≡ getD (constIds 
 abbrev μ-loop : tie.MeasureT-loop
 μ-loop func i n x j₀ j = n - j
 
-word-requires : tie.Need-word-requires Inv-loop μ-loop
-word-requires c κs =
+row-const-id-requires : tie.Need-row-const-id-requires Inv-loop μ-loop
+row-const-id-requires c κs =
     let s = c .before .before .before in
-    (record { size = s .pre .0 .size; pool = lit< tt; fits = s .pre .0 .fits ConstId; below = s .pre .1 }, lit< tt)
+    record { size = s .pre .0 .size; pool = lit< tt; fits = s .pre .0 .fits ConstId; below = s .pre .1 }
 
 loop-holds : tie.Need-loop-holds Inv-loop μ-loop
 loop-holds c =
     let s = c .before .before .before .before in
     let w = s .args .func .now in
-    (c .before .wide .ensures ∙ c .before .before .count .ensures, c .word .ensures ∙ id-at w (s .args .i), rest-first _ _ _ (omega (arith, s .pre .1, ids-length (s .pre .0))))
+    (c .before .wide .ensures ∙ c .before .before .count .ensures, c .row-const-id .ensures ∙ id-at w (s .args .i), rest-first _ _ _ (omega (arith, s .pre .1, ids-length (s .pre .0))))
 
-word-requires-2 : tie.Need-word-requires-2 Inv-loop μ-loop
-word-requires-2 c κs =
+row-const-id-requires-2 : tie.Need-row-const-id-requires-2 Inv-loop μ-loop
+row-const-id-requires-2 c κs =
     let s = c .before .before .before .before .before .before in
-    (record { size = s .pre .0 .size; pool = lit< tt; fits = s .pre .0 .fits ConstId; below = omega (arith, c .before .loop .inv .0) }, lit< tt)
+    record { size = s .pre .0 .size; pool = lit< tt; fits = s .pre .0 .fits ConstId; below = omega (arith, c .before .loop .inv .0) }
 
 returns : tie.Need-returns Inv-loop μ-loop
 returns c =
@@ -43,7 +43,7 @@ returns c =
     let s = l .before .before .before .before .before in
     let w = s .args .func .now in
     let h : l .loop .j < length (constIds w) = omega (arith, l .loop .inv .0, ids-length (s .pre .0)) in
-    sym (within-stop _ (l .loop .inv .2) h (sym (l .loop .inv .1) ∙ c .if1 .taken ∙ c .before .word2 .ensures ∙ id-at w (l .loop .j)))
+    sym (within-stop _ (l .loop .inv .2) h (sym (l .loop .inv .1) ∙ c .if1 .taken ∙ c .before .row-const-id2 .ensures ∙ id-at w (l .loop .j)))
 
 loop-again : tie.Need-loop-again Inv-loop μ-loop
 loop-again c =
@@ -51,7 +51,7 @@ loop-again c =
     let s = l .before .before .before .before .before in
     let w = s .args .func .now in
     let h : l .loop .j < length (constIds w) = omega (arith, l .loop .inv .0, ids-length (s .pre .0)) in
-    (l .loop .inv .0, l .loop .inv .1, within-next _ (l .loop .inv .2) h (λ e. c .if1 .left (l .loop .inv .1 ∙ e ∙ sym (c .before .word2 .ensures ∙ id-at w (l .loop .j)))))
+    (l .loop .inv .0, l .loop .inv .1, within-next _ (l .loop .inv .2) h (λ e. c .if1 .left (l .loop .inv .1 ∙ e ∙ sym (c .before .row-const-id2 .ensures ∙ id-at w (l .loop .j)))))
 
 returns-2 : tie.Need-returns-2 Inv-loop μ-loop
 returns-2 c =
@@ -67,10 +67,10 @@ repeats-spec =
     μ-loop
     (λ c κs. search needs)
     (λ c κs. search needs)
-    word-requires
+    row-const-id-requires
     (λ c. omega (arith, c .before .wide .ensures))
     loop-holds
-    word-requires-2
+    row-const-id-requires-2
     returns
     (λ c. search needs)
     (λ c. search needs)
