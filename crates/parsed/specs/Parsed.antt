@@ -1,5 +1,7 @@
 -- A text that passes refusals 3 to 7 fits the function slice, so that all of it stands there and is read back. Assumes nothing.
---     fits-checked       what the slice asks of a text follows from the refusals' own tests
+--     fits-few           so does a text that passes 3 to 5 and has no more ctrl lines and entries than the slice has room for
+--     few-control        a text that passes 7 too has no more
+--     fits-checked       both in one step: what the slice asks of a text follows from the refusals' own tests
 --     tables-checked     so its words are tables that the accessors read
 use mathlib.Core.Path.{_≡_, refl, ap}
 use mathlib.Core.Bool.{Bool, true, _&&_, not}
@@ -12,7 +14,7 @@ use borrow.Author.Tests.{ltb-true, le-leb}
 use Rattle.lifting.specs.Lists.{every, gather, within, distinct, below, keys}
 use Rattle.lifting.specs.Ast.{Value, const, regionInput, nodeOutput, dataInstOutput, block, call, ControlInst, Func}
 use Rattle.lifting.specs.Parts as text
-use Rattle.lifting.specs.Limits.{maxOpcode, withinLimits}
+use Rattle.lifting.specs.Limits.{maxRegions, maxTargets, maxOpcode, withinLimits}
 use Rattle.lifting.specs.References.{named, instFits, referencesHold}
 use Rattle.lifting.specs.Tree.{standsOnce, aroundItself, rootsHaveWaysOut, isTree}
 use Rattle.lifting.specs.Order.{roots}
@@ -69,13 +71,12 @@ entries-fit F c e =
     let r = fewer (keys (c .vals)) (c .to) (distinct-once (keys (c .vals)) (d .1)) (λ x i. in-within x (c .to) (every-in (λ r. within r (c .to)) (keys (c .vals)) (b .1) x i)) in
     omega (arith, length-keys (c .vals))
 
-pub record Checked (F : Func) : Type 0 where
-  pub limits : withinLimits F ≡ true
-  pub references : referencesHold F ≡ true
-  pub tree : isTree F ≡ true
-  pub control : controlFits F ≡ true
+-- as many ctrl lines and entries of theirs as the function slice has room for
+pub record Few (F : Func) : Type 0 where
+  pub ctrls : length (F .ctrls) ≤ maxRegions
+  pub entries : length (entryList F) ≤ maxTargets
 
-module _ (F : Func) (ok : Checked F) where
+module _ (F : Func) (references : referencesHold F ≡ true) where
   -- refusal 4's test, by its parts
   record Below : Type 0 where
     values : every (named F) (text.values F) ≡ true
@@ -87,7 +88,7 @@ module _ (F : Func) (ok : Checked F) where
   below-all : Below
   unfolding referencesHold
   below-all =
-      let a = both _ (every instFits (text.insts F)) (ok .references) in
+      let a = both _ (every instFits (text.insts F)) references in
       let b = both _ (every (λ c. leb (c .opcode) maxOpcode) (F .consts)) (a .0) in
       let c = both _ (distinct (map (λ c. c .id) (F .consts))) (b .0) in
       let d = both _ (every (λ x. ltb 0 x) (text.requiredIds F)) (c .0) in
@@ -103,57 +104,76 @@ module _ (F : Func) (ok : Checked F) where
         ctrls = r .1;
       }
 
-  -- refusal 5's test: its first three parts
-  record Once : Type 0 where
-    nodes : standsOnce (length (F .nodes)) (text.nodeList F) ≡ true
-    ops : standsOnce (length (F .ops)) (text.opList F) ≡ true
-    children : distinct (text.childList F) ≡ true
+-- refusal 5's test: its first three parts
+record Once (F : Func) : Type 0 where
+  nodes : standsOnce (length (F .nodes)) (text.nodeList F) ≡ true
+  ops : standsOnce (length (F .ops)) (text.opList F) ≡ true
+  children : distinct (text.childList F) ≡ true
 
-  once-all : Once
-  unfolding isTree
-  once-all =
-      let a = both _ (rootsHaveWaysOut (F .ctrls) (text.childList F) (length (F .regions))) (ok .tree) in
-      let b = both _ (not (within 0 (text.childList F))) (a .0) in
-      let c = both _ (every (λ r. not (aroundItself F r)) (below (length (F .regions)))) (b .0) in
-      let d = both _ (distinct (text.childList F)) (c .0) in
-      let e = both (standsOnce (length (F .nodes)) (text.nodeList F)) (standsOnce (length (F .ops)) (text.opList F)) (d .0) in
-      record { nodes = e .0; ops = e .1; children = d .1 }
+once-all : (F : Func) → isTree F ≡ true → Once F
+unfolding isTree
+once-all F tree =
+    let a = both _ (rootsHaveWaysOut (F .ctrls) (text.childList F) (length (F .regions))) tree in
+    let b = both _ (not (within 0 (text.childList F))) (a .0) in
+    let c = both _ (every (λ r. not (aroundItself F r)) (below (length (F .regions)))) (b .0) in
+    let d = both _ (distinct (text.childList F)) (c .0) in
+    let e = both (standsOnce (length (F .nodes)) (text.nodeList F)) (standsOnce (length (F .ops)) (text.opList F)) (d .0) in
+    record { nodes = e .0; ops = e .1; children = d .1 }
 
-  -- refusal 7's: no ctrl twice for a region, and each line by itself
-  record Ways : Type 0 where
-    once : distinct (keys (F .ctrls)) ≡ true
-    each : every (λ c. ctrlFits F (c .1)) (F .ctrls) ≡ true
+-- refusal 7's: no ctrl twice for a region, and each line by itself
+record Ways (F : Func) : Type 0 where
+  once : distinct (keys (F .ctrls)) ≡ true
+  each : every (λ c. ctrlFits F (c .1)) (F .ctrls) ≡ true
 
-  ways-all : Ways
-  unfolding controlFits
-  ways-all =
-      let a = both _ (every (λ c. ctrlFits F (c .1)) (F .ctrls)) (ok .control) in
-      let b = both _ (reachedFit (F .ctrls) (roots F)) (a .0) in
-      let c = both (distinct (keys (F .ctrls))) (every (isRoot F) (keys (F .ctrls))) (b .0) in
-      record { once = c .0; each = a .1 }
+ways-all : (F : Func) → controlFits F ≡ true → Ways F
+unfolding controlFits
+ways-all F control =
+    let a = both _ (every (λ c. ctrlFits F (c .1)) (F .ctrls)) control in
+    let b = both _ (reachedFit (F .ctrls) (roots F)) (a .0) in
+    let c = both (distinct (keys (F .ctrls))) (every (isRoot F) (keys (F .ctrls))) (b .0) in
+    record { once = c .0; each = a .1 }
 
-  keys-below : (l : List (ℕ × ControlInst)) → All (λ r. r < length (F .regions)) (gather (λ c. c .0 ∷ (c .1 .to ++ keys (c .1 .vals))) l) → All (λ r. r < length (F .regions)) (keys l)
-  keys-below [] h = tt
-  keys-below (c ∷ l) h =
-      let s = all-split (λ r. r < length (F .regions)) (c .0 ∷ (c .1 .to ++ keys (c .1 .vals))) _ h in
-      (s .0 .0, keys-below l (s .1))
+keys-below : (n : ℕ) (l : List (ℕ × ControlInst)) → All (λ r. r < n) (gather (λ c. c .0 ∷ (c .1 .to ++ keys (c .1 .vals))) l) → All (λ r. r < n) (keys l)
+keys-below n [] h = tt
+keys-below n (c ∷ l) h =
+    let s = all-split (λ r. r < n) (c .0 ∷ (c .1 .to ++ keys (c .1 .vals))) _ h in
+    (s .0 .0, keys-below n l (s .1))
 
-  pub fits-checked : Fits F
-  unfolding entryList text.targets text.ctrlRegions
-  fits-checked =
-      let m = limits-of F (ok .limits) in
-      let b = below-all in
-      let o = once-all in
-      let w = ways-all in
+module _ (F : Func) (limits : withinLimits F ≡ true) (references : referencesHold F ≡ true) where
+  pub fits-few : isTree F ≡ true → Few F → Fits F
+  fits-few tree few =
+      let m = limits-of F limits in
+      let b = below-all F references in
+      let o = once-all F tree in
       record {
-        limits = ok .limits;
+        limits = limits;
         nodeRefs = omega (arith, m .nodes, fewer-below (length (F .nodes)) (text.nodeList F) (stands-once (length (F .nodes)) (text.nodeList F) (o .nodes) (b .nodes)) (b .nodes));
         opRefs = omega (arith, m .ops, fewer-below (length (F .ops)) (text.opList F) (stands-once (length (F .ops)) (text.opList F) (o .ops) (b .ops)) (b .ops));
         childRefs = omega (arith, m .regions, fewer-below (length (F .regions)) (text.childList F) (distinct-once (text.childList F) (o .children)) (b .children));
-        entries = omega (arith, m .targets, gather-fewer (λ c. c .1 .vals) (λ c. c .1 .to) (F .ctrls) (λ c i. entries-fit F (c .1) (every-in _ (F .ctrls) (w .each) c i)));
-        ctrls = omega (arith, m .regions, length-keys (F .ctrls), fewer-below (length (F .regions)) (keys (F .ctrls)) (distinct-once (keys (F .ctrls)) (w .once)) (keys-below (F .ctrls) (b .ctrls)));
+        entries = few .entries;
+        ctrls = few .ctrls;
         firsts = every-more (named F) kept (first-kept F m) (text.values F) (b .values);
       }
+
+  pub few-control : controlFits F ≡ true → Few F
+  unfolding entryList text.targets text.ctrlRegions
+  few-control control =
+      let m = limits-of F limits in
+      let w = ways-all F control in
+      record {
+        ctrls = omega (arith, m .regions, length-keys (F .ctrls), fewer-below (length (F .regions)) (keys (F .ctrls)) (distinct-once (keys (F .ctrls)) (w .once)) (keys-below (length (F .regions)) (F .ctrls) (below-all F references .ctrls)));
+        entries = omega (arith, m .targets, gather-fewer (λ c. c .1 .vals) (λ c. c .1 .to) (F .ctrls) (λ c i. entries-fit F (c .1) (every-in _ (F .ctrls) (w .each) c i)));
+      }
+
+pub record Checked (F : Func) : Type 0 where
+  pub limits : withinLimits F ≡ true
+  pub references : referencesHold F ≡ true
+  pub tree : isTree F ≡ true
+  pub control : controlFits F ≡ true
+
+module _ (F : Func) (ok : Checked F) where
+  pub fits-checked : Fits F
+  fits-checked = fits-few F (ok .limits) (ok .references) (ok .tree) (few-control F (ok .limits) (ok .references) (ok .control))
 
   pub tables-checked : {w : List ℕ} → Clear w → Tables (keepFunc F w)
   tables-checked c = tables-func F c fits-checked

@@ -1,0 +1,62 @@
+-- Refusals 3 to 7 in their order, as tests of the function slice's words: what the code computes. specs/Same says that it is the definition.
+-- Assumes nothing.
+--     refusalNumber      document 01's numbers
+--     checksTest         the first refusal of 3 to 7
+--     ChecksSafe         what the code needs to stay within the slice
+use mathlib.Core.Path.{_≡_}
+use mathlib.Core.Bool.{Bool, true, false, _&&_}
+use mathlib.Core.List.{List}
+use Prim.Native.Nat.{ℕ, _≤_}
+use lib.Dec.{leb}
+use lib.ListN.{length}
+use Rattle.lifting.specs.Limits.{scratchWords, maxRegions, maxTargets}
+use Rattle.lifting.specs.Control.{controlFits}
+use Rattle.func.specs.Layout.{entries, ctrls}
+use Rattle.func.specs.Store.{count}
+use Rattle.func.specs.Decode.{funcOf}
+use Rattle.func.specs.Tables.{Tables}
+use Rattle.references.specs.Test.{limitsTest, referencesTest}
+use Rattle.tree.specs.Test.{treeTest, TreeSafe}
+use Rattle.counts.specs.Test.{countsTest, CountsSafe}
+use Rattle.control.specs.Tables.{Named}
+use Rattle.checks.specs.declared.Refusal.{Refusal}
+use Rattle.checks.specs.declared.Refusal.the-variants.{Long, Forms, Limits, References, Tree, Counts, Control, Scratch}
+use Rattle.checks.specs.declared.Parsed.{Parsed}
+use Rattle.checks.specs.declared.Parsed.the-variants.{Function, Refused}
+
+abbrev pub refusalNumber : Refusal → ℕ
+refusalNumber Long = 1
+refusalNumber Forms = 2
+refusalNumber Limits = 3
+refusalNumber References = 4
+refusalNumber Tree = 5
+refusalNumber Counts = 6
+refusalNumber Control = 7
+refusalNumber Scratch = 8
+
+-- the first of the tests of 3 to 7 that is not passed
+abbrev pub judge : Bool → Bool → Bool → Bool → Bool → Parsed
+judge false references tree counts control = Refused Limits
+judge true false tree counts control = Refused References
+judge true true false counts control = Refused Tree
+judge true true true false control = Refused Counts
+judge true true true true false = Refused Control
+judge true true true true true = Function
+
+-- there is room for all ctrl lines and entries
+unfoldable pub fewTest : List ℕ → Bool
+fewTest w = leb (count ctrls w) maxRegions && leb (count entries w) maxTargets
+
+-- `opcodes` and `edges` are what the reader judged of ctrl lines. Only few of them stand in the slice whole, and of more refusal 7 holds.
+unfoldable pub checksTest : List ℕ → Bool → Bool → Parsed
+unfolding limitsTest referencesTest treeTest countsTest controlFits funcOf
+checksTest w opcodes edges =
+    judge (limitsTest w) (referencesTest w && opcodes) (treeTest w) (countsTest w && edges) (fewTest w && controlFits (funcOf w))
+
+-- each test is safe where those before it were passed
+pub record ChecksSafe (w : List ℕ) (opcodes : Bool) : Type 0 where
+  pub size : scratchWords ≤ length w
+  pub tree : limitsTest w ≡ true → (referencesTest w && opcodes) ≡ true → TreeSafe w
+  pub counts : limitsTest w ≡ true → (referencesTest w && opcodes) ≡ true → treeTest w ≡ true → CountsSafe w
+  pub tables : limitsTest w ≡ true → (referencesTest w && opcodes) ≡ true → treeTest w ≡ true → fewTest w ≡ true → Tables w
+  pub named : limitsTest w ≡ true → (referencesTest w && opcodes) ≡ true → treeTest w ≡ true → fewTest w ≡ true → Named (funcOf w)

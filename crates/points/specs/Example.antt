@@ -1,0 +1,51 @@
+-- The walk of a text by computation: its points by number, the points that the numbers say, and the parents of its regions. Assumes nothing.
+use mathlib.Core.Path.{_≡_, refl}
+use mathlib.Core.List.{List, [], _∷_, _++_, map}
+use mathlib.Core.Option.{Option, none, some}
+use Prim.Native.Nat.{ℕ}
+use native.Mathlib.Decide.{ℕ-discrete}
+use Rattle.lifting.specs.Bytes.{bytes}
+use Rattle.lifting.specs.Lists.{below}
+use Rattle.lifting.specs.Ast.{Func}
+use Rattle.lifting.specs.Grammar.{read}
+use Rattle.lifting.specs.Order.{roots}
+use Rattle.lifting.specs.Points.{regionEntry, regionExit, nodeEntry, nodeExit, points}
+use Rattle.lifting.specs.Walk.{walkOf}
+use Rattle.points.specs.Numbers.{pointNumber, pointOf}
+use Rattle.points.specs.Parents.{parentOf}
+
+-- a block, and a select whose second case holds a loop; region 4 follows region 0
+text : List ℕ
+text =
+    bytes "(func 0 2 3 0)\n(const 5 43)\n"
+    ++ bytes "(region (in) (nodes 0 1) (out))\n"
+    ++ bytes "(region (in) (nodes) (out))\n"
+    ++ bytes "(region (in) (nodes 2) (out))\n"
+    ++ bytes "(region (in) (nodes) (out))\n"
+    ++ bytes "(region (in) (nodes) (out))\n"
+    ++ bytes "(block)\n"
+    ++ bytes "(select bool (c 0) (cases 1 2) (outs))\n"
+    ++ bytes "(loop 3 (c 0) (init))\n"
+    ++ bytes "(ctrl 0 0 branch (ins) (to 4) (vals))\n"
+    ++ bytes "(ctrl 4 0 return (ins) (to) (vals))\n"
+
+abbrev numbers : Option Func → List ℕ
+numbers none = []
+numbers (some F) = map pointNumber (points (walkOf F))
+
+abbrev parents : Option Func → List ℕ
+parents none = []
+parents (some F) = map (parentOf F) (below 5)
+
+numbers-of : numbers (read text) ≡ 0 ∷ 256 ∷ 257 ∷ 258 ∷ 2 ∷ 3 ∷ 4 ∷ 260 ∷ 6 ∷ 7 ∷ 261 ∷ 5 ∷ 259 ∷ 1 ∷ 8 ∷ 9 ∷ []
+unfolding text read walkOf roots
+numbers-of = refl
+
+points-of : map pointOf (0 ∷ 256 ∷ 257 ∷ 258 ∷ 2 ∷ 3 ∷ []) ≡ regionEntry 0 ∷ nodeEntry 0 ∷ nodeExit 0 ∷ nodeEntry 1 ∷ regionEntry 1 ∷ regionExit 1 ∷ []
+unfolding pointOf
+points-of = refl
+
+-- regions 1 and 2 are node 1's, region 3 is node 2's
+parents-of : parents (read text) ≡ 0 ∷ 2 ∷ 2 ∷ 3 ∷ 0 ∷ []
+unfolding text read ℕ-discrete
+parents-of = refl

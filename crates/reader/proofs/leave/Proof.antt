@@ -1,0 +1,20 @@
+-- `leave` meets its contract. Assumes nothing.
+use mathlib.Core.Path.{sym}
+use Rattle.reader.proofs.Laws.{kept-told}
+use borrow.Author.Needs.{needs}
+use Rattle.reader.proofs.leave.Statement.{statement}
+use Rattle.reader.proofs.leave.Tie as tie
+
+returns-2 : tie.Need-returns-2
+returns-2 c = kept-told (c .before .before .before .before .before .before .before .args .func .now) (c .before .before .before .before .enum-told2 .given .1) (c .before .before .clear .ensures)
+
+pub leave-spec : {M : Type 1} → statement M
+leave-spec =
+    tie.close
+    (tie.spec
+    (λ c. search needs)
+    (λ c. search needs)
+    (λ c κs. search needs)
+    (λ c. search needs)
+    (λ c. search needs)
+    returns-2)

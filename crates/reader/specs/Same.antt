@@ -1,0 +1,181 @@
+-- The reader's answer is that of `parse`. Assumes nothing.
+--     short, long, malformed     refusals 8, 1 and 2
+--     judged-safe, judged        refusals 3 to 7, of a text that is of the forms
+--     answered, too-short        so the answer and both slices are as promised
+--     accepted                   what a caller has where the function stands in its slice
+use mathlib.Core.Path.{_≡_, refl, sym, ap, subst, _∙_}
+use mathlib.Core.Bool.{Bool, true, false, _&&_}
+use mathlib.Core.List.{List}
+use mathlib.Core.Option.{Option, none, some}
+use Prim.Native.Nat.{ℕ, zero, suc, _≤_, _<_}
+use native.Mathlib.Omega.{arith}
+use lib.Dec.{leb, eqb}
+use lib.ListN.{length, getD, replicate, length-replicate}
+use borrow.Author.Tests.{le-leb, lt-leb, leb-true}
+use Rattle.lifting.specs.Lists.{every, gather}
+use Rattle.lifting.specs.Limits.{maxBytes, maxRegions, scratchWords, withinLimits}
+use Rattle.lifting.specs.Ast.{Func}
+use Rattle.lifting.specs.Parts.{ctrlInsts}
+use Rattle.lifting.specs.Grammar.{read}
+use Rattle.lifting.specs.Counts.{edgesFit}
+use Rattle.lifting.specs.Answer as answer
+use Rattle.lifting.specs.Answer.{parsed, denied, checked, formed, parse, zerosUnless8}
+use Rattle.lifting.specs.Control.{controlFits}
+use Rattle.references.specs.Test.{opcodeFits, limitsTest, referencesTest}
+use Rattle.tree.specs.Test.{treeTest}
+use Rattle.counts.specs.Test.{countsTest}
+use Rattle.func.specs.Decode.{funcOf}
+use Rattle.func.specs.Whole.{Clear, clear-zeros}
+use Rattle.func.specs.Keep.{keepFunc}
+use Rattle.ctrls.specs.Same.{opcodes-judged, edges-judged}
+use Rattle.texts.specs.Whole.{Text}
+use Rattle.checks.specs.declared.Refusal.{Refusal}
+use Rattle.checks.specs.declared.Refusal.the-variants as refusal
+use Rattle.checks.specs.declared.Parsed.{Parsed}
+use Rattle.checks.specs.declared.Parsed.the-variants.{Function, Refused}
+use Rattle.checks.specs.Test.{refusalNumber, judge, fewTest, checksTest, ChecksSafe}
+use Rattle.checks.specs.Same.{verdict, checks-safe, checks-same, passes, Stands, back}
+use Rattle.reader.specs.Parse.{answerOf, funcAfter, workAfter, enoughTest, keptAfter, Holds, Judges}
+
+-- `parse` by its first two tests
+abbrev byLength : List ℕ → Bool → answer.Parsed
+byLength text false = denied 1
+byLength text true = formed (read text)
+
+abbrev byScratch : List ℕ → Bool → answer.Parsed
+byScratch text false = denied 8
+byScratch text true = byLength text (leb (length text) maxBytes)
+
+parse-is : (text : List ℕ) (n m : ℕ) → parse text n m ≡ byScratch text (enoughTest n m)
+parse-is text n m = by-scratch (enoughTest n m) refl
+  where
+    by-length : enoughTest n m ≡ true → (b : Bool) → leb (length text) maxBytes ≡ b → parse text n m ≡ byScratch text (enoughTest n m)
+    by-length e false f = unfold parse in rw (e, f, parse)
+    by-length e true f = unfold parse in rw (e, f, parse)
+
+    by-scratch : (b : Bool) → enoughTest n m ≡ b → parse text n m ≡ byScratch text (enoughTest n m)
+    by-scratch false e = unfold parse in rw (e, parse)
+    by-scratch true e = by-length e (leb (length text) maxBytes) refl
+
+-- 8
+pub short : (text : List ℕ) (n m : ℕ) → enoughTest n m ≡ false → parse text n m ≡ denied 8
+short text n m e = parse-is text n m ∙ ap (byScratch text) e
+
+module _ (text : List ℕ) (n m : ℕ) (a : scratchWords ≤ n) (b : scratchWords ≤ m) where
+  later : parse text n m ≡ byLength text (leb (length text) maxBytes)
+  later = parse-is text n m ∙ (λ i. byScratch text (le-leb scratchWords n a i && le-leb scratchWords m b i))
+
+  -- 1
+  pub long : maxBytes < length text → parse text n m ≡ denied 1
+  long h = later ∙ ap (byLength text) (lt-leb (length text) maxBytes h)
+
+  -- 2
+  module _ (h : length text ≤ maxBytes) where
+    formed-is : parse text n m ≡ formed (read text)
+    formed-is = later ∙ ap (byLength text) (le-leb (length text) maxBytes h)
+
+    pub malformed : read text ≡ none → parse text n m ≡ denied 2
+    unfolding formed
+    malformed e = formed-is ∙ ap formed e
+
+    pub checked-is : (F : Func) → read text ≡ some F → parse text n m ≡ checked F
+    unfolding formed
+    checked-is F e = formed-is ∙ ap formed e
+
+-- no word of zeros is a mark
+zero-marks : (n i : ℕ) → _≡_ {A = ℕ} (getD (replicate n 0) i 0) 0
+zero-marks zero i = refl
+zero-marks (suc n) zero = refl
+zero-marks (suc n) (suc i) = zero-marks n i
+
+-- the refusals of a text that is of the forms are not 8
+abbrev eight : Parsed → Bool
+eight Function = false
+eight (Refused x) = eqb (refusalNumber x) 8
+
+not-eight : (v w x y z : Bool) → eight (judge v w x y z) ≡ false
+not-eight false w x y z = refl
+not-eight true false x y z = refl
+not-eight true true false y z = refl
+not-eight true true true false z = refl
+not-eight true true true true false = refl
+not-eight true true true true true = refl
+
+module _ (text : List ℕ) (n m : ℕ) (a : scratchWords ≤ n) (b : scratchWords ≤ m) (h : length text ≤ maxBytes) {opcodes edges : Bool} {v : List ℕ}
+    (t : Text opcodes edges text (replicate n 0) (replicate m 0) v) where
+  zeros : Clear (replicate n 0)
+  zeros = clear-zeros n a
+
+  opcodes-fit : opcodes ≡ every (λ i. opcodeFits (i .opcode)) (gather (λ c. ctrlInsts (c .1 .kind)) (t .F .ctrls))
+  opcodes-fit = sym (t .opcodes-are) ∙ opcodes-judged (t .F .ctrls) _ (replicate m 0)
+
+  edges-fit : withinLimits (t .F) ≡ true → edges ≡ every (λ c. edgesFit (t .F) (c .1)) (t .F .ctrls)
+  edges-fit l = sym (t .edges-are) ∙ edges-judged (t .F) zeros (replicate m 0) (omega (arith, length-replicate {A = ℕ} m 0)) (zero-marks m) l
+
+  pub judged-safe : ChecksSafe v opcodes
+  judged-safe = subst (λ (v : List ℕ). ChecksSafe v opcodes) (t .func) (checks-safe (t .F) zeros opcodes opcodes-fit)
+
+  same : verdict (checksTest v opcodes edges) (t .F) ≡ checked (t .F)
+  same = subst (λ (v : List ℕ). verdict (checksTest v opcodes edges) (t .F) ≡ checked (t .F)) (t .func) (checks-same (t .F) zeros opcodes opcodes-fit edges edges-fit)
+
+  pub judged : (r : Parsed) → r ≡ checksTest v opcodes edges → Judges r text n m v
+  judged Function e =
+      let k : parsed (t .F) ≡ checked (t .F) = ap (λ (r : Parsed). verdict r (t .F)) e ∙ same in
+      record { F = t .F; is = checked-is text n m a b h (t .F) (t .read-is) ∙ sym k; passed = sym k; func = sym (t .func) }
+  judged (Refused x) e =
+      let k : denied (refusalNumber x) ≡ checked (t .F) = ap (λ (r : Parsed). verdict r (t .F)) e ∙ same in
+      (checked-is text n m a b h (t .F) (t .read-is) ∙ sym k, ap eight e ∙ test)
+    where
+      test : eight (checksTest v opcodes edges) ≡ false
+      test = unfold checksTest in not-eight (limitsTest v) (referencesTest v && opcodes) (treeTest v) (countsTest v && edges) (fewTest v && controlFits (funcOf v))
+
+-- the answer and the slices at the end, from what was judged over zeros
+module _ (text f w : List ℕ) where
+  pub judged-at : {n m : ℕ} (r : Parsed) (v : List ℕ) → n ≡ length f → m ≡ length w → Judges r text n m v → Judges r text (length f) (length w) v
+  judged-at {m = m} r v e g j = subst (λ (k : ℕ). Judges r text (length f) k v) g (subst (λ (k : ℕ). Judges r text k m v) e j)
+
+  pub answered : scratchWords ≤ length f → (r : Parsed) (v u x : List ℕ) → Judges r text (length f) (length w) v → length v ≡ length f → u ≡ keptAfter r v → x ≡ replicate (length w) 0
+      → (answerOf r u ≡ parse text (length f) (length w)) × ((u ≡ funcAfter (parse text (length f) (length w)) f) × (x ≡ workAfter (parse text (length f) (length w)) w))
+  answered size Function v u x j l q z =
+      let s = back (j .F) (clear-zeros (length f) size) (j .passed) in (
+        ap parsed (ap funcOf (q ∙ j .func) ∙ s .func) ∙ sym (j .is),
+        (q ∙ j .func ∙ sym (ap (λ (p : answer.Parsed). funcAfter p f) (j .is)), z ∙ sym (ap (λ (p : answer.Parsed). workAfter p w) (j .is))),
+      )
+  answered size (Refused y) v u x j l q z = (
+    sym (j .0),
+    (
+      q ∙ ap (λ (k : ℕ). replicate k 0) l ∙ sym (ap (λ (p : answer.Parsed). funcAfter p f) (j .0) ∙ ap (λ (b : Bool). zerosUnless8 b f) (j .1)),
+      z ∙ sym (ap (λ (p : answer.Parsed). workAfter p w) (j .0) ∙ ap (λ (b : Bool). zerosUnless8 b w) (j .1)),
+    ),
+  )
+
+  pub too-short : enoughTest (length f) (length w) ≡ false
+      → (denied 8 ≡ parse text (length f) (length w)) × ((f ≡ funcAfter (parse text (length f) (length w)) f) × (w ≡ workAfter (parse text (length f) (length w)) w))
+  too-short e =
+      let k = sym (short text (length f) (length w) e) in
+      (k, (ap (λ (p : answer.Parsed). funcAfter p f) k, ap (λ (p : answer.Parsed). workAfter p w) k))
+
+-- a text that is parsed is of the forms and passes, and the slices were long enough
+parsed-checked : (text : List ℕ) (n m : ℕ) (F : Func) → parse text n m ≡ parsed F → (scratchWords ≤ n) × (checked F ≡ parsed F)
+parsed-checked text n m F e = by-scratch (leb scratchWords n) (leb scratchWords m) refl (sym (parse-is text n m) ∙ e)
+  where
+    by-read : (o : Option Func) → formed o ≡ parsed F → checked F ≡ parsed F
+    by-read none q = absurd (unfold formed in let z : _≡_ {A = ℕ} 0 1 = cc in omega arith)
+    by-read (some G) q =
+        let c : checked G ≡ parsed F = unfold formed in q in
+        subst (λ (H : Func). checked H ≡ parsed F) (passes G F c .0) c
+
+    by-length : (b : Bool) → byLength text b ≡ parsed F → checked F ≡ parsed F
+    by-length false q = absurd (let z : _≡_ {A = ℕ} 0 1 = cc in omega arith)
+    by-length true q = by-read (read text) q
+
+    by-scratch : (a b : Bool) → leb scratchWords n ≡ a → byScratch text (a && b) ≡ parsed F → (scratchWords ≤ n) × (checked F ≡ parsed F)
+    by-scratch true true h q = (leb-true scratchWords n h, by-length (leb (length text) maxBytes) q)
+    by-scratch true false h q = absurd (let z : _≡_ {A = ℕ} 0 1 = cc in omega arith)
+    by-scratch false b h q = absurd (let z : _≡_ {A = ℕ} 0 1 = cc in omega arith)
+
+-- what the promise gives where the answer is that the function stands in its slice
+pub accepted : (text f v : List ℕ) (m : ℕ) → answerOf Function v ≡ parse text (length f) m → v ≡ funcAfter (parse text (length f) m) f → Stands (funcOf v) v
+accepted text f v m e q =
+    let k = parsed-checked text (length f) m (funcOf v) (sym e) in
+    subst (λ (w : List ℕ). Stands (funcOf v) w) (sym (q ∙ ap (λ (p : answer.Parsed). funcAfter p f) (sym e))) (back (funcOf v) (clear-zeros (length f) (k .0)) (k .1))

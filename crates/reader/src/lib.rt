@@ -1,0 +1,68 @@
+// From the lent text to the tables in the function slice, or a refusal: the one entry of the reader. It asks nothing of its caller.
+use checks::Parsed;
+use checks::Refusal;
+use checks::checks;
+use ctrls::CtrlsRead;
+use func::clear;
+use texts::read_text;
+ghost use mathlib.Core.Path.{_≡_};
+ghost use Prim.Native.Nat.{_≤_};
+ghost use lib.ListN.{length, replicate};
+ghost use Rattle.lifting.specs.Limits.{scratchWords};
+ghost use Rattle.lifting.specs.Answer.{parse};
+ghost use Rattle.reader.specs.Parse.{Judges, answerOf, funcAfter, workAfter, keptAfter, enoughTest};
+
+// Both scratch slices are long enough.
+fn enough(func: &[u32], work: &[u32]) -> bool
+    ensures { λ r. ⌜ r ≡ enoughTest (length (now (func .entry))) (length (now (work .entry))) ⌝ }
+{
+    if func.len() < 16384 {
+        return false;
+    }
+    16384 <= work.len()
+}
+
+// The text, judged over cleared slices: what stands in the function slice then goes by the answer.
+fn judge(text: &[u8], func: &mut [u32], work: &mut [u32]) -> Parsed
+    requires { ⌜ (scratchWords ≤ length (now func)) × (scratchWords ≤ length (now work)) ⌝ }
+    requires { ⌜ (now func ≡ replicate (length (now func)) 0) × (now work ≡ replicate (length (now work)) 0) ⌝ }
+    ensures { λ r. ⌜ Judges r (now (text .entry)) (length (now (func .entry))) (length (now (work .entry))) (now (func .exit)) ⌝ }
+    ensures { λ _. ⌜ length (now (func .exit)) ≡ length (now (func .entry)) ⌝ }
+    ensures { λ _. ⌜ length (now (work .exit)) ≡ length (now (work .entry)) ⌝ }
+{
+    if 32768 < text.len() {
+        return Parsed::Refused(Refusal::Long);
+    }
+    let CtrlsRead::Read(opcodes, edges) = read_text(func, work, text) else {
+        return Parsed::Refused(Refusal::Forms);
+    };
+    checks(func, work, opcodes, edges)
+}
+
+// After a refusal the function slice is cleared.
+fn leave(func: &mut [u32], r: Parsed)
+    ensures { λ _. ⌜ now (func .exit) ≡ keptAfter r (now (func .entry)) ⌝ }
+{
+    match r {
+        Parsed::Function => {}
+        Parsed::Refused(_) => clear(func),
+    }
+}
+
+// The function of the text, in the function slice, or the first refusal of 8 and 1 to 7 that holds. The work slice ends as zeros, and the function
+// slice too after a refusal; after 8 both keep their words.
+pub fn parse(text: &[u8], func: &mut [u32], work: &mut [u32]) -> Parsed
+    ensures { λ r. ⌜ answerOf r (now (func .exit)) ≡ parse (now (text .entry)) (length (now (func .entry))) (length (now (work .entry))) ⌝ }
+    ensures { λ _. ⌜ now (func .exit) ≡ funcAfter (parse (now (text .entry)) (length (now (func .entry))) (length (now (work .entry)))) (now (func .entry)) ⌝ }
+    ensures { λ _. ⌜ now (work .exit) ≡ workAfter (parse (now (text .entry)) (length (now (func .entry))) (length (now (work .entry)))) (now (work .entry)) ⌝ }
+{
+    if !enough(func, work) {
+        return Parsed::Refused(Refusal::Scratch);
+    }
+    clear(func);
+    clear(work);
+    let r = judge(text, func, work);
+    leave(func, r);
+    clear(work);
+    r
+}

@@ -1,0 +1,3 @@
+-- The whole text, and what reading it stores.
+pub mod Whole
+pub mod Chain
