@@ -23,14 +23,24 @@ pub enum Answer {
 pub fn answer(input: &[u8]) -> Answer {
     let mut cursor = Cursor(input);
     let Some(first) = cursor.first() else { return Answer::Refused(2) };
-    if cursor.0.len() > 32_768 {
-        return Answer::Refused(1);
+    match parse(cursor.0) {
+        Ok(func) => lift(&func, first),
+        Err(number) => Answer::Refused(number),
     }
-    let Some(func) = cursor.func() else { return Answer::Refused(2) };
-    match func.refusal() {
-        Some(number) => Answer::Refused(number),
-        None => lift(&func, first),
+}
+
+/// The lines of a text's kept blocks, or its refusal.
+pub fn blocks(text: &[u8]) -> Result<Vec<String>, u32> {
+    Ok(list::block_lines(&parse(text)?))
+}
+
+/// Refusals 1 to 7 and the function.
+fn parse(text: &[u8]) -> Result<Func, u32> {
+    if text.len() > 32_768 {
+        return Err(1);
     }
+    let Some(func) = Cursor(text).func() else { return Err(2) };
+    func.refusal().map_or(Ok(func), Err)
 }
 
 /// Refusals 9 to 11 and the list, for a function that 3 to 7 let pass.

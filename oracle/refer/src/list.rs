@@ -30,6 +30,17 @@ pub struct Terminator {
     pub merge: Option<Merge>,
 }
 
+impl Terminator {
+    /// None, a selection's end, or where a loop is left and where its way back begins.
+    fn merge_labels(&self) -> Vec<Point> {
+        match self.merge {
+            Some(Merge::Selection(exit)) => vec![exit],
+            Some(Merge::Loop(exit, again)) => vec![exit, again],
+            None => vec![],
+        }
+    }
+}
+
 #[derive(Debug)]
 pub struct Phi {
     pub decl: Decl,
@@ -42,6 +53,8 @@ pub struct Phi {
 #[derive(Debug)]
 pub struct Block {
     pub point: Point,
+    /// The points whose ops and way out it holds: its own, then each that was absorbed.
+    pub chain: Vec<Point>,
     pub phis: Vec<Phi>,
     pub ops: Vec<u32>,
     pub terminator: Terminator,
@@ -145,7 +158,7 @@ struct Walk<'a> {
 
 impl<'a> Walk<'a> {
     fn visit(&mut self, point: Point, phis: Vec<Phi>, ops: &[u32], terminator: Terminator) {
-        self.blocks.push(Block { point, phis, ops: ops.to_vec(), terminator });
+        self.blocks.push(Block { point, chain: vec![point], phis, ops: ops.to_vec(), terminator });
     }
 
     fn input_phis(&self, region: u32, inits: &[Value]) -> Vec<Phi> {
@@ -230,11 +243,7 @@ pub fn use_counts(blocks: &[Block]) -> HashMap<Point, usize> {
     count(blocks[0].point);
     for block in blocks {
         block.terminator.targets.iter().for_each(|target| count(*target));
-        match block.terminator.merge {
-            Some(Merge::Selection(label)) => count(label),
-            Some(Merge::Loop(merge, again)) => [merge, again].into_iter().for_each(&mut count),
-            None => {}
-        }
+        block.terminator.merge_labels().into_iter().for_each(&mut count);
     }
     counts
 }
@@ -259,6 +268,8 @@ pub fn kept(mut blocks: Vec<Block>) -> Vec<Block> {
             && blocks[place].phis.is_empty()
         {
             counts.insert(target, 0);
+            let chain = std::mem::take(&mut blocks[place].chain);
+            blocks[i].chain.extend(chain);
             let ops = std::mem::take(&mut blocks[place].ops);
             blocks[i].ops.extend(ops);
             blocks[i].terminator = blocks[place].terminator.clone();
@@ -266,6 +277,26 @@ pub fn kept(mut blocks: Vec<Block>) -> Vec<Block> {
     }
     blocks.retain(|block| counts.get(&block.point).is_some_and(|count| *count > 0));
     blocks
+}
+
+/// A line for each kept block. An imported function has none.
+pub fn block_lines(func: &Func) -> Vec<String> {
+    if func.imported {
+        return vec![];
+    }
+    let visited = visits(func);
+    // Absorption changes no kept point's count.
+    let counts = use_counts(&visited);
+    let points = |word: &str, points: &[Point]| {
+        points.iter().fold(word.to_owned(), |line, point| format!("{line} {point}"))
+    };
+    let line = |Block { point, chain, terminator, .. }: &Block| {
+        let (chain, uses) = (points("chain", chain), counts[point]);
+        let to = points("to", &terminator.targets);
+        let merge = points("merge", &terminator.merge_labels());
+        format!("(block {point} ({chain}) (uses {uses}) ({to}) ({merge}))")
+    };
+    kept(visited).iter().map(line).collect()
 }
 
 /// The list and the next free id. A name that no kept block gives is id 0 there.
@@ -370,6 +401,17 @@ pub fn list(func: &Func, first: u32) -> (Vec<Line>, u64) {
     }
     lines.push(line(56, none, 0, vec![]));
     (lines, next)
+}
+
+impl std::fmt::Display for Point {
+    fn fmt(&self, f: &mut std::fmt::Formatter<'_>) -> std::fmt::Result {
+        match self {
+            RegionEntry(region) => write!(f, "r{region}+"),
+            RegionExit(region) => write!(f, "r{region}-"),
+            NodeEntry(node) => write!(f, "n{node}+"),
+            NodeExit(node) => write!(f, "n{node}-"),
+        }
+    }
 }
 
 impl std::fmt::Display for Line {

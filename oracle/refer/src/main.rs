@@ -2,20 +2,24 @@
 //!
 //! With `--batch` standard input is many cases and standard output as many answers, each ended
 //! by a line `%%`. With `--totals` a list is followed by `(words N)` and `(next N)`, the word
-//! count and the next free id.
+//! count and the next free id. With `--blocks` an input is a text without a first line, and what
+//! is printed are its kept blocks, or the refusal by 1 to 7.
 
-use refer::{Answer, answer};
+use refer::{Answer, answer, blocks};
 use std::io::{self, Read, Write};
+
+type Print = fn(&mut dyn Write, &[u8]) -> io::Result<()>;
 
 fn main() -> io::Result<()> {
     let mut batch = false;
-    let mut totals = false;
+    let mut print: Print = |out, input| print_list(out, input, false);
     for option in std::env::args().skip(1) {
         match &option[..] {
             "--batch" => batch = true,
-            "--totals" => totals = true,
+            "--totals" => print = |out, input| print_list(out, input, true),
+            "--blocks" => print = print_blocks,
             _ => {
-                eprintln!("usage: refer [--batch] [--totals]");
+                eprintln!("usage: refer [--batch] [--totals | --blocks]");
                 std::process::exit(2);
             }
         }
@@ -24,13 +28,13 @@ fn main() -> io::Result<()> {
     io::stdin().lock().read_to_end(&mut input)?;
     let mut out = io::BufWriter::new(io::stdout().lock());
     if !batch {
-        print(&mut out, &input, totals)?;
+        print(&mut out, &input)?;
         return out.flush();
     }
     let mut case = vec![];
     for line in input.split_inclusive(|&byte| byte == b'\n') {
         if line == b"%%\n" {
-            print(&mut out, &case, totals)?;
+            print(&mut out, &case)?;
             writeln!(out, "%%")?;
             case.clear();
         } else {
@@ -40,7 +44,7 @@ fn main() -> io::Result<()> {
     out.flush()
 }
 
-fn print(out: &mut impl Write, input: &[u8], totals: bool) -> io::Result<()> {
+fn print_list(out: &mut dyn Write, input: &[u8], totals: bool) -> io::Result<()> {
     match answer(input) {
         Answer::List { lines, words, next } => {
             lines.iter().try_for_each(|line| writeln!(out, "{line}"))?;
@@ -50,5 +54,12 @@ fn print(out: &mut impl Write, input: &[u8], totals: bool) -> io::Result<()> {
             Ok(())
         }
         Answer::Refused(number) => writeln!(out, "(refused {number})"),
+    }
+}
+
+fn print_blocks(out: &mut dyn Write, text: &[u8]) -> io::Result<()> {
+    match blocks(text) {
+        Ok(lines) => lines.iter().try_for_each(|line| writeln!(out, "{line}")),
+        Err(number) => writeln!(out, "(refused {number})"),
     }
 }
