@@ -1,21 +1,23 @@
 -- What the proofs of this crate cite, over plain variables. Assumes nothing.
-use mathlib.Core.Path.{_≡_, refl, sym, ap, _∙_}
-use mathlib.Core.Bool.{Bool, true, false, not, _&&_}
+use mathlib.Core.Path.{_≡_, refl, sym, ap, subst, _∙_}
+use mathlib.Core.Bool.{Bool, true, false, _&&_}
 use mathlib.Core.List.{List, _∷_, _++_}
 use Prim.Native.Nat.{ℕ, zero, suc, _+_, _-_, _/_, _%_, _≤_, _<_}
+use native.Mathlib.Decide.{ℕ-discrete}
 use native.Mathlib.Omega.{arith}
 use lib.Dec.{eqb, lit<}
-use lib.ListN.{length, getD, set}
-use borrow.Author.Tests.{eqb-true, eq-eqb, ne-eqb, lt-ltb}
+use lib.ListN.{length, getD, set, length-set}
+use borrow.Author.Tests.{eqb-true, eqb-false, eq-eqb, ne-eqb, lt-ltb}
 use Rattle.lifting.specs.Limits.{scratchWords}
-use Rattle.lifting.specs.Lists.{tabulate, below, every, gather, distinct}
+use Rattle.lifting.specs.Lists.{tabulate, below, gather, distinct}
 use Rattle.func.specs.Lists.{both}
 use Rattle.func.specs.Layout.{poolTotal, entryWords, entryRoom, nodeRefs, opRefs, childRefs, regions, nodes, ops, ctrls}
 use Rattle.func.specs.Store.{count}
 use Rattle.func.specs.Tables.{Within, word}
-use Rattle.tree.specs.Once.{Below, every-same}
-use Rattle.tree.specs.Test.{numbers, refs, onceTest, childFit, childTest, childrenIn, kids, parentIn, climbs, acyclic, cycleTest, treeTest, Refs, TreeSafe, Whole}
-use Rattle.tree.specs.Marks.{Run, Clear, fresh, fresh-clear, fresh-zero, fresh-hit, fresh-next, mark, mark-done, mark-append, tab-first, tab-next, tab-done, numbers-first, numbers-next, numbers-done, table, table-is, parent-low, climbs-same}
+use Rattle.tree.specs.Once.{Below, split}
+use Rattle.tree.specs.Test.{numbers, refs, onceTest, childFit, childTest, childrenIn, kids, parentIn, acyclic, cycleTest, treeTest, Refs, TreeSafe, Whole}
+use Rattle.tree.specs.Marks.{Run, Clear, fresh, fresh-clear, fresh-zero, fresh-hit, fresh-next, mark, mark-done, mark-append, tab-first, tab-next, tab-done, numbers-first, numbers-next, numbers-done, table, table-is, parent-low}
+use Rattle.tree.specs.Stamps.{stampsAt, parent, stamp, Out, Way, free, Stamped, Climbed, way-one, way-on, way-out, out-root, found-cycle, all-clean, acyclic-same, stamped-same, free-low, free-less, stamp-same, stamp-other, parent-other}
 use Rattle.tree.specs.Fit.{fit-low}
 
 -- the numbers of a pool name lines
@@ -147,37 +149,194 @@ module _ (w : List ℕ) where
     pub child-low : (n i x : ℕ) → n < count nodes w → i < word nodes w n 5 % 4096 → x ≡ word childRefs w (word nodes w n 5 / 4096 + i) 0 → x < 128
     child-low n i x h l e = omega (arith, s .child-refs .named f (word nodes w n 5 / 4096 + i) (child-in n i h l .below), s .region-room)
 
--- the loop over the regions that may lie around themselves
-module _ (p : ℕ → ℕ) (n : ℕ) where
-  abbrev clean : ℕ → Bool
-  clean r = not (climbs p r n r)
+-- the loop that clears the stamps, after i turns: w is what the work slice was
+pub record Cleared (n i : ℕ) (w u : List ℕ) : Type 0 where
+  pub size : length u ≡ length w
+  pub same : (c : ℕ) → c < n → parent u c ≡ parent w c
+  pub blank : (c : ℕ) → c < i → stamp u c ≡ 0
 
-  pub around-first : acyclic p n ≡ every (λ r. not (climbs p r n r)) (tabulate (λ i. i) 0 (n - 0))
-  around-first = ap (every clean) (tab-first (λ i. i) 0 0 n refl)
+pub cleared-first : (n : ℕ) (w : List ℕ) → Cleared n 0 w w
+cleared-first n w = record { size = refl; same = λ c l. refl; blank = λ c l. absurd (omega arith) }
 
-  pub around-hit : (r : ℕ) → r < n → climbs p r n r ≡ true → every (λ r. not (climbs p r n r)) (tabulate (λ i. i) r (n - r)) ≡ false
-  around-hit r h e = ap (every clean) (tab-next (λ i. i) r (r + 1) r n h refl) ∙ rw e
+pub cleared-next : (n i : ℕ) (w u : List ℕ) → n ≤ stampsAt → stampsAt + i < length w → Cleared n i w u → Cleared n (i + 1) w (set u (stampsAt + i) 0)
+cleared-next n i w u h l z = record {
+  size = length-set u (stampsAt + i) 0 ∙ z .size;
+  same = λ c b. parent-other u i 0 c (omega arith) ∙ z .same c b;
+  blank = λ c b.
+      split (ℕ-discrete c i) (λ e. ap (stamp (set u (stampsAt + i) 0)) e ∙ stamp-same u i 0 (omega (arith, z .size)))
+      (λ e. stamp-other u i 0 c e ∙ z .blank c (omega arith));
+}
 
-  pub around-next : (r : ℕ) → r < n → climbs p r n r ≡ false
-      → every (λ r. not (climbs p r n r)) (tabulate (λ i. i) r (n - r)) ≡ every (λ r. not (climbs p r n r)) (tabulate (λ i. i) (r + 1) (n - (r + 1)))
-  around-next r h e = ap (every clean) (tab-next (λ i. i) r (r + 1) r n h refl) ∙ rw e
+pub cleared-done : (n i : ℕ) (w u : List ℕ) → n ≤ i → n ≤ stampsAt → scratchWords ≤ length w → ((c : ℕ) → c < n → parent w c ≤ n) → Cleared n i w u → Stamped (parent w) n 0 u
+cleared-done n i w u d h l g z = record {
+  few = h;
+  size = omega (arith, z .size);
+  low = g;
+  same = z .same;
+  old = λ c b. omega (arith, z .blank c (omega arith));
+  seen = λ c b. absurd (omega arith);
+  out = λ c b s. absurd (omega (arith, z .blank c (omega arith)));
+}
 
-  pub around-done : (r : ℕ) → n ≤ r → every (λ r. not (climbs p r n r)) (tabulate (λ i. i) r (n - r)) ≡ true
-  around-done r h = ap (every clean) (tab-done (λ i. i) r r n h)
+-- A climb from region r is at region `at`: from each region that it has stamped the way leads there, in no more steps than it stamped regions.
+pub record Climb (p : ℕ → ℕ) (n r at : ℕ) (u : List ℕ) : Type 0 where
+  pub few : n ≤ stampsAt
+  pub size : scratchWords ≤ length u
+  pub low : (c : ℕ) → c < n → p c ≤ n
+  pub same : (c : ℕ) → c < n → parent u c ≡ p c
+  pub here : at < n
+  pub old : (c : ℕ) → c < n → stamp u c ≤ r + 1
+  pub seen : (c : ℕ) → c < r → 0 < stamp u c
+  pub start : (r ≡ at → ⊥) → 0 < stamp u r
+  pub out : (c : ℕ) → c < n → 0 < stamp u c → stamp u c ≤ r → (j : ℕ) × Out p c j
+  pub back : (c : ℕ) → c < n → stamp u c ≡ r + 1 → (i : ℕ) × (0 < i) × (i + free u n ≤ n) × Way p i c at
 
-pub acyclic-same : (p q : ℕ → ℕ) (n : ℕ) → ((c : ℕ) → c < n → p c ≡ q c) → ((c : ℕ) → c < n → p c ≤ n) → acyclic p n ≡ acyclic q n
-acyclic-same p q n e h = every-same (λ r. not (climbs p r n r)) (λ r. not (climbs q r n r)) 0 n (λ r l. ap not (climbs-same p q n r e h n r (omega arith)))
+module _ (p : ℕ → ℕ) (n r : ℕ) where
+  pub climb-first : (u : List ℕ) → r < n → Stamped p n r u → Climb p n r r u
+  climb-first u h s = record {
+    few = s .few;
+    size = s .size;
+    low = s .low;
+    same = s .same;
+    here = h;
+    old = λ c l. omega (arith, s .old c l);
+    seen = s .seen;
+    start = λ e. absurd (e refl);
+    out = λ c l z o. s .out c l z;
+    back = λ c l e. absurd (omega (arith, s .old c l));
+  }
+
+  -- where the climb stops
+  module _ (at : ℕ) (u : List ℕ) (k : Climb p n r at u) where
+    -- where the region here has a way out, each region with a stamp has one
+    climb-over : (j : ℕ) → Out p at j → 0 < stamp u at → Stamped p n (r + 1) u
+    climb-over j o h = record {
+      few = k .few;
+      size = k .size;
+      low = k .low;
+      same = k .same;
+      old = k .old;
+      seen = λ c l. split (ℕ-discrete c r) (λ e. subst (λ (x : ℕ). 0 < stamp u x) (sym e) root) (λ e. k .seen c (omega arith));
+      out = λ c l z.
+          split (ℕ-discrete (stamp u c) (r + 1)) (λ e. let w = k .back c l e in way-out p (w .0) c at j (w .3) o)
+          (λ e. k .out c l z (omega (arith, k .old c l)));
+    }
+      where
+        root : 0 < stamp u r
+        root = split (ℕ-discrete r at) (λ e. subst (λ (x : ℕ). 0 < stamp u x) (sym e) h) (k .start)
+
+    climb-met : stamp u at ≡ r + 1 → acyclic p n ≡ false
+    climb-met e = let w = k .back at (k .here) e in found-cycle p n at (w .0) (k .here) (w .1) (omega (arith, w .2)) (w .3)
+
+    climb-other : 0 < stamp u at → (stamp u at ≡ r + 1 → ⊥) → Stamped p n (r + 1) u
+    climb-other h e = let o = k .out at (k .here) h (omega (arith, k .old at (k .here))) in climb-over (o .0) (o .1) h
+
+    -- the region has a stamp: which one tells
+    pub climb-end : (stamp u at ≡ 0 → ⊥) → Climbed (eqb (stamp u at) (r + 1)) p n r u
+    climb-end z = go (eqb (stamp u at) (r + 1)) refl
+      where
+        go : (b : Bool) → eqb (stamp u at) (r + 1) ≡ b → Climbed b p n r u
+        go true q = climb-met (eqb-true (stamp u at) (r + 1) q)
+        go false q = climb-other (omega arith) (eqb-false (stamp u at) (r + 1) q)
+
+  -- where the region has no stamp yet, and gets it
+  module _ (at : ℕ) (u : List ℕ) (k : Climb p n r at u) (z : stamp u at ≡ 0) where
+    abbrev next : List ℕ
+    next = set u (stampsAt + at) (r + 1)
+
+    inside : stampsAt + at < length u
+    inside = omega (arith, k .few, k .here, k .size)
+
+    mine : stamp next at ≡ r + 1
+    mine = stamp-same u at (r + 1) inside
+
+    other : (c : ℕ) → (c ≡ at → ⊥) → stamp next c ≡ stamp u c
+    other c e = stamp-other u at (r + 1) c e
+
+    pub climb-less : free u n ≡ suc (free next n)
+    climb-less = free-less u at (r + 1) n (k .here) inside z (omega arith)
+
+    -- the region's parent, read after it was stamped
+    pub climb-parent : (x : ℕ) → x ≡ parent next at → p at ≡ x
+    climb-parent x e = sym (e ∙ parent-other u at (r + 1) at (omega (arith, k .few, k .here)) ∙ k .same at (k .here))
+
+    kept : (c : ℕ) → 0 < stamp u c → 0 < stamp next c
+    kept c h = split (ℕ-discrete c at) (λ e. absurd (omega (arith, z, ap (stamp u) e))) (λ e. omega (arith, other c e))
+
+    set-old : (c : ℕ) → c < n → stamp next c ≤ r + 1
+    set-old c l = split (ℕ-discrete c at) (λ e. omega (arith, mine, ap (stamp next) e)) (λ e. omega (arith, other c e, k .old c l))
+
+    set-start : 0 < stamp next r
+    set-start = split (ℕ-discrete r at) (λ e. omega (arith, mine, ap (stamp next) e)) (λ e. kept r (k .start e))
+
+    set-out : (c : ℕ) → c < n → 0 < stamp next c → stamp next c ≤ r → (j : ℕ) × Out p c j
+    set-out c l h o =
+        split (ℕ-discrete c at) (λ e. absurd (omega (arith, mine, ap (stamp next) e)))
+        (λ e. k .out c l (omega (arith, other c e)) (omega (arith, other c e)))
+
+    pub climb-further : (s : ℕ) → p at ≡ suc s → Climb p n r s next
+    climb-further s e = record {
+      few = k .few;
+      size = omega (arith, length-set u (stampsAt + at) (r + 1), k .size);
+      low = k .low;
+      same = λ c l. parent-other u at (r + 1) c (omega (arith, k .few)) ∙ k .same c l;
+      here = omega (arith, k .low at (k .here));
+      old = set-old;
+      seen = λ c l. kept c (k .seen c l);
+      start = λ d. set-start;
+      out = set-out;
+      back = λ c l q.
+          split (ℕ-discrete c at) (λ d. (1, omega arith, omega (arith, climb-less, free-low u n), subst (λ (x : ℕ). Way p 1 x s) (sym d) (way-one p at s e)))
+          (λ d. let w = k .back c l (sym (other c d) ∙ q) in (suc (w .0), omega arith, omega (arith, climb-less, w .2), way-on p (w .0) c at s (w .3) e));
+    }
+
+    pub climb-root : p at ≡ 0 → Stamped p n (r + 1) next
+    climb-root e = record {
+      few = k .few;
+      size = omega (arith, length-set u (stampsAt + at) (r + 1), k .size);
+      low = k .low;
+      same = λ c l. parent-other u at (r + 1) c (omega (arith, k .few)) ∙ k .same c l;
+      old = set-old;
+      seen = λ c l. split (ℕ-discrete c r) (λ d. subst (λ (x : ℕ). 0 < stamp next x) (sym d) set-start) (λ d. kept c (k .seen c (omega arith)));
+      out = λ c l h.
+          split (ℕ-discrete c at) (λ d. (0, out-root p c (ap p d ∙ e)))
+          (λ d.
+          split (ℕ-discrete (stamp u c) (r + 1)) (λ q. let w = k .back c l q in way-out p (w .0) c at 0 (w .3) (out-root p at e))
+          (λ q. k .out c l (omega (arith, other c d)) (omega (arith, k .old c l))));
+    }
+
+-- the climbs one after the other: u is what the work slice w has become
+module _ (n r : ℕ) (w u : List ℕ) (s : Stamped (parent w) n r u) where
+  still : (c : ℕ) → c < n → parent w c ≡ parent u c
+  still c l = sym (s .same c l)
+
+  small : (c : ℕ) → c < n → parent u c ≤ n
+  small c l = omega (arith, s .same c l, s .low c l)
+
+  pub around-own : Stamped (parent u) n r u
+  around-own = stamped-same (parent w) (parent u) n still (s .low) r u s
+
+  module _ (x : Bool) (t : List ℕ) (k : Climbed x (parent u) n r t) where
+    pub around-hit : x ≡ true → false ≡ acyclic (parent w) n
+    around-hit e = sym (acyclic-same (parent w) (parent u) n still (s .low) ∙ subst (λ (b : Bool). Climbed b (parent u) n r t) e k)
+
+    pub around-next : x ≡ false → Stamped (parent w) n (r + 1) t
+    around-next e = stamped-same (parent u) (parent w) n (s .same) small (r + 1) t (subst (λ (b : Bool). Climbed b (parent u) n r t) e k)
+
+  pub around-done : n ≤ r → true ≡ acyclic (parent w) n
+  around-done h = sym (all-clean (parent w) n (λ c l. s .out c l (s .seen c (omega arith))))
 
 -- the table of parents
 module _ (w : List ℕ) (n : ℕ) (t u : List ℕ) (h : n ≤ length t) (z : Clear n t) (e : u ≡ table w n t) where
-  table-at : (c : ℕ) → c < n → getD u c 0 ≡ parentIn w n c
-  table-at c l = ap (λ (x : List ℕ). getD x c 0) e ∙ table-is w n n t h z c l
+  table-at : (c : ℕ) → c < n → parent u c ≡ parentIn w n c
+  table-at c l = ap (λ (x : List ℕ). parent x c) e ∙ table-is w n n t h z c l
 
-  pub table-low : (c : ℕ) → c < n → getD u c 0 ≤ n
+  pub table-low : (c : ℕ) → c < n → parent u c ≤ n
   table-low c l = omega (arith, table-at c l, parent-low w n c)
 
-  pub table-acyclic : acyclic (λ c. getD u c 0) n ≡ acyclic (parentIn w n) n
-  table-acyclic = acyclic-same (λ c. getD u c 0) (parentIn w n) n table-at table-low
+  -- also where the words behind it have changed
+  pub table-acyclic : (v : List ℕ) → ((c : ℕ) → c < n → parent v c ≡ parent u c) → acyclic (parent v) n ≡ acyclic (parentIn w n) n
+  table-acyclic v s = acyclic-same (parent v) (parentIn w n) n (λ c l. s c l ∙ table-at c l) (λ c l. omega (arith, s c l, table-low c l))
 
 -- the tests one after the other
 pub tree-1 : (w : List ℕ) → onceTest nodeRefs nodes w ≡ false → false ≡ treeTest w

@@ -2,5 +2,6 @@
 pub mod Once
 pub mod Test
 pub mod Marks
+pub mod Stamps
 pub mod Fit
 pub mod Same

@@ -231,22 +231,6 @@ pub climb-none : (p : ℕ → ℕ) (r at : ℕ) → climbs p r 0 at ≡ false
 unfolding climbs
 climb-none p r at = refl
 
--- the same with the number of steps that are left, and what was read
-module _ (p : ℕ → ℕ) (r left at x : ℕ) (h : 0 < left) (e : x ≡ p at) where
-  more : left ≡ suc (left - 1)
-  more = omega arith
-
-  pub climb-stop : x ≡ 0 → climbs p r left at ≡ false
-  climb-stop z = ap (λ (k : ℕ). climbs p r k at) more ∙ climb-out p r (left - 1) at (sym e ∙ z)
-
-  pub climb-hit : (x ≡ 0 → ⊥) → x - 1 ≡ r → climbs p r left at ≡ true
-  climb-hit n z = let y : x ≡ suc r = omega arith in ap (λ (k : ℕ). climbs p r k at) more ∙ climb-back p r (left - 1) at (sym e ∙ y)
-
-  pub climb-next : (x ≡ 0 → ⊥) → (x - 1 ≡ r → ⊥) → climbs p r left at ≡ climbs p r (left - 1) (x - 1)
-  climb-next n z =
-      let y : x ≡ suc (x - 1) = omega arith in
-      ap (λ (k : ℕ). climbs p r k at) more ∙ climb-on p r (left - 1) at (x - 1) (sym e ∙ y) (λ d. z (sym d))
-
 pub climbs-same : (p q : ℕ → ℕ) (n r : ℕ) → ((c : ℕ) → c < n → p c ≡ q c) → ((c : ℕ) → c < n → p c ≤ n) → (k at : ℕ) → at < n → climbs p r k at ≡ climbs q r k at
 unfolding climbs
 climbs-same p q n r e h zero at l = refl

@@ -1,6 +1,6 @@
 // Refusal 5: whether the regions, nodes and ops of the function slice form a tree. Counts are compared first, since a pool of references that
-// is over its room cannot pass; then marks in the work slice tell whether a reference stands twice, and a table of parents whether a region
-// lies around itself.
+// is over its room cannot pass; then marks in the work slice tell whether a reference stands twice, and a table of parents, with one of stamps
+// behind it, whether a region lies around itself.
 use func::CHILD_REFS;
 use func::CTRLS;
 use func::NODE_REFS;
@@ -22,8 +22,12 @@ ghost use lib.ListN.{length, getD};
 ghost use Rattle.lifting.specs.Limits.{scratchWords};
 ghost use Rattle.func.specs.Layout.{poolTotal, entryWords, entryRoom, regions, childRefs};
 ghost use Rattle.func.specs.Store.{count};
-ghost use Rattle.tree.specs.Test.{numbers, refs, kids, climbs, acyclic, cycleTest, onceTest, childFit, childTest, treeTest, Refs, TreeSafe, Whole};
+ghost use Rattle.tree.specs.Test.{numbers, refs, kids, acyclic, cycleTest, onceTest, childFit, childTest, treeTest, Refs, TreeSafe, Whole};
 ghost use Rattle.tree.specs.Marks.{Run, Clear, fresh, mark, table};
+ghost use Rattle.tree.specs.Stamps.{stampsAt, parent, Stamped, Climbed};
+
+// Where the stamps stand in the work slice.
+const STAMPS: usize = 128;
 
 // The first n words are 0.
 fn clear_marks(work: &mut [u32], n: usize)
@@ -184,35 +188,50 @@ fn adopt_all(func: &[u32], n: usize, work: &mut [u32])
     }
 }
 
-// Region r comes again within n steps outward from it.
-fn climbs_back(parents: &[u32], r: usize, n: usize) -> bool
-    requires { ⌜ (r < n) × (n ≤ length (now parents)) × ((c : ℕ) → c < n → getD (now parents) c 0 ≤ n) ⌝ }
-    ensures { λ x. ⌜ x ≡ climbs (λ c. getD (now (parents .entry)) c 0) r n r ⌝ }
+// No region has a stamp.
+fn clear_stamps(work: &mut [u32], n: usize)
+    requires { ⌜ (n ≤ stampsAt) × (scratchWords ≤ length (now work)) × ((c : ℕ) → c < n → parent (now work) c ≤ n) ⌝ }
+    ensures { λ _. ⌜ Stamped (parent (now (work .entry))) n 0 (now (work .exit)) ⌝ }
+    ensures { λ _. ⌜ length (now (work .exit)) ≡ length (now (work .entry)) ⌝ }
 {
+    let mut i = 0;
+    while i < n {
+        work[STAMPS + i] = 0;
+        i += 1;
+    }
+}
+
+// Climbs outward from region r of n, up to a root or a region that has a stamp, and stamps the regions on the way: whether it comes to one
+// that it has stamped itself.
+fn climbs_back(work: &mut [u32], r: usize, n: usize) -> bool
+    requires { ⌜ r < n ⌝ }
+    requires { ⌜ Stamped (parent (now work)) n r (now work) ⌝ }
+    ensures { λ x. ⌜ Climbed x (parent (now (work .entry))) n r (now (work .exit)) ⌝ }
+    ensures { λ _. ⌜ length (now (work .exit)) ≡ length (now (work .entry)) ⌝ }
+{
+    let own = (r + 1) as u32;
     let mut at = r;
-    let mut left = n;
-    while 0 < left {
-        let p = wide(parents[at]);
+    while work[STAMPS + at] == 0 {
+        work[STAMPS + at] = own;
+        let p = wide(work[at]);
         if p == 0 {
             return false;
         }
         at = p - 1;
-        if at == r {
-            return true;
-        }
-        left -= 1;
     }
-    false
+    work[STAMPS + at] == own
 }
 
-// No region lies around itself.
-fn none_around(parents: &[u32], n: usize) -> bool
-    requires { ⌜ (n ≤ length (now parents)) × ((c : ℕ) → c < n → getD (now parents) c 0 ≤ n) ⌝ }
-    ensures { λ x. ⌜ x ≡ acyclic (λ c. getD (now (parents .entry)) c 0) n ⌝ }
+// No region lies around itself. Each is stamped once, and a climb looks at one more than it stamps: so all climbs together take at most two
+// steps for each region.
+fn none_around(work: &mut [u32], n: usize) -> bool
+    requires { ⌜ Stamped (parent (now work)) n 0 (now work) ⌝ }
+    ensures { λ x. ⌜ x ≡ acyclic (parent (now (work .entry))) n ⌝ }
+    ensures { λ _. ⌜ length (now (work .exit)) ≡ length (now (work .entry)) ⌝ }
 {
     let mut r = 0;
     while r < n {
-        if climbs_back(parents, r, n) {
+        if climbs_back(work, r, n) {
             return false;
         }
         r += 1;
@@ -230,6 +249,7 @@ fn no_cycle(func: &[u32], work: &mut [u32]) -> bool
     let n = wide(count(func, REGIONS));
     clear_marks(work, n);
     adopt_all(func, n, work);
+    clear_stamps(work, n);
     none_around(work, n)
 }
 

@@ -1,61 +1,67 @@
--- `tree::climbs_back` meets its contract: what is left of the climb tells the same. Assumes nothing.
-use mathlib.Core.Path.{_≡_, refl, sym, ap, _∙_}
-use Prim.Native.Nat.{_≤_, _<_}
+-- `tree::climbs_back` meets its contract: the climb is at a region to which each region that it stamped leads. Assumes nothing.
+use mathlib.Core.Path.{_≡_, refl, _∙_}
+use Prim.Native.Nat.{suc, _-_}
 use native.Mathlib.Omega.{arith}
-use lib.ListN.{getD}
+use lib.ListN.{length, length-set}
 use borrow.Author.Needs.{needs}
-use Rattle.tree.specs.Test.{climbs}
-use Rattle.tree.specs.Marks.{climb-stop, climb-hit, climb-next, climb-none}
+use Rattle.tree.specs.Stamps.{parent, free}
+use Rattle.tree.proofs.Laws.{Climb, climb-first, climb-less, climb-parent, climb-further, climb-root, climb-end}
 use Rattle.tree.proofs.climbs_back.Statement.{statement}
 use Rattle.tree.proofs.climbs_back.Tie as tie
 
 abbrev Inv-loop : tie.InvT-loop
-Inv-loop parents r n at₀ left₀ at left = (at < n) × (left ≤ n) × (climbs (λ c. getD parents c 0) r n r ≡ climbs (λ c. getD parents c 0) r left at)
+Inv-loop work₀ r n own at₀ work at = (length work ≡ length work₀) × Climb (parent work₀) n r at work
 
 abbrev μ-loop : tie.MeasureT-loop
-μ-loop parents r n at₀ left₀ at left = left
+μ-loop work₀ r n own at₀ work at = free work n
 
 loop-holds : tie.Need-loop-holds Inv-loop μ-loop
-loop-holds c = (omega arith, omega arith, refl)
+loop-holds c = (refl, climb-first (parent (c .before .args .work .now)) (c .before .args .n) (c .before .args .r) (c .before .args .work .now) (c .before .pre .0) (c .before .pre .1))
 
-shared-slice-read-wide : tie.Need-shared-slice-read-wide Inv-loop μ-loop
-shared-slice-read-wide c = omega arith
+slice-read-wide : tie.Need-slice-read-wide Inv-loop μ-loop
+slice-read-wide c =
+    let l = c .before .before .before .loop in
+    simp length-set (omega (arith, l .inv .1 .here, l .inv .1 .few, l .inv .1 .size))
+
+same-length : tie.Need-same-length Inv-loop μ-loop
+same-length c = simp length-set (c .before .before .before .before .before .loop .inv .0)
 
 returns : tie.Need-returns Inv-loop μ-loop
 returns c =
-    let b = c .before in
-    let l = b .before .before .before .loop in
-    let a = b .before .before .before .before .before .args in
-    sym (l .inv .2 ∙ climb-stop (λ c. getD (a .parents .now) c 0) (a .r) (l .left) (l .at) (b .wide .result) (omega arith) (b .wide .ensures) (c .if1 .taken))
-
-returns-2 : tie.Need-returns-2 Inv-loop μ-loop
-returns-2 c =
-    let b = c .before .before in
-    let l = b .before .before .before .loop in
-    let a = b .before .before .before .before .before .args in
-    sym (l .inv .2 ∙ climb-hit (λ c. getD (a .parents .now) c 0) (a .r) (l .left) (l .at) (b .wide .result) (omega arith) (b .wide .ensures) (c .before .if1 .left) (c .if2 .taken))
+    let a = c .before .before .before .before .before .before .before .args in
+    let l = c .before .before .before .before .before .loop in
+    let p = parent (a .work .now) in
+    let z = c .before .before .before .if1 .taken in (
+      climb-root p (a .n) (a .r) (l .at) (l .work) (l .inv .1) z (climb-parent p (a .n) (a .r) (l .at) (l .work) (l .inv .1) z (c .before .wide .result) (c .before .wide .ensures) ∙ c .if2 .taken),
+      simp length-set (l .inv .0),
+    )
 
 loop-less : tie.Need-loop-less Inv-loop μ-loop
-loop-less c = omega arith
+loop-less c =
+    let a = c .before .before .before .before .before .before .before .args in
+    let l = c .before .before .before .before .before .loop in
+    omega (arith, climb-less (parent (a .work .now)) (a .n) (a .r) (l .at) (l .work) (l .inv .1) (c .before .before .before .if1 .taken))
 
 loop-again : tie.Need-loop-again Inv-loop μ-loop
 loop-again c =
-    let b = c .before .before in
-    let l = b .before .before .before .loop in
-    let s = b .before .before .before .before .before in
-    let a = s .args in (
-      omega (arith, b .wide .ensures, s .pre .2 (l .at) (l .inv .0)),
-      omega arith,
-      l .inv .2
-          ∙ climb-next (λ c. getD (a .parents .now) c 0) (a .r) (l .left) (l .at) (b .wide .result) (omega arith) (b .wide .ensures) (c .before .if1 .left) (c .if2 .left),
+    let a = c .before .before .before .before .before .before .before .args in
+    let l = c .before .before .before .before .before .loop in
+    let p = parent (a .work .now) in
+    let z = c .before .before .before .if1 .taken in
+    let y : c .before .wide .result ≡ suc (c .before .wide .result - 1) = omega (arith, c .if2 .left) in (
+      simp length-set (l .inv .0),
+      climb-further p (a .n) (a .r) (l .at) (l .work) (l .inv .1) z (c .before .wide .result - 1)
+          (climb-parent p (a .n) (a .r) (l .at) (l .work) (l .inv .1) z (c .before .wide .result) (c .before .wide .ensures) ∙ y),
     )
 
-returns-3 : tie.Need-returns-3 Inv-loop μ-loop
-returns-3 c =
-    let l = c .before .loop in
-    let a = c .before .before .before .args in
-    let e : l .left ≡ 0 = omega arith in
-    sym (l .inv .2 ∙ ap (λ k. climbs (λ c. getD (a .parents .now) c 0) (a .r) k (l .at)) e ∙ climb-none (λ c. getD (a .parents .now) c 0) (a .r) (l .at))
+same-length-2 : tie.Need-same-length-2 Inv-loop μ-loop
+same-length-2 c = c .before .before .before .loop .inv .0
+
+returns-2 : tie.Need-returns-2 Inv-loop μ-loop
+returns-2 c =
+    let a = c .before .before .before .before .before .args in
+    let l = c .before .before .before .loop in
+    (climb-end (parent (a .work .now)) (a .n) (a .r) (l .at) (l .work) (l .inv .1) (c .before .if1 .left), l .inv .0)
 
 pub climbs-back-spec : {M : Type 1} → statement M
 climbs-back-spec =
@@ -63,14 +69,25 @@ climbs-back-spec =
     (tie.spec
     Inv-loop
     μ-loop
+    (λ c. search needs)
+    (λ c. search needs)
     loop-holds
     (λ c. search needs)
-    shared-slice-read-wide
-    (λ c κs. search needs)
-    returns
     (λ c. search needs)
-    returns-2
+    (λ c. search needs)
+    (λ c. search needs)
+    (λ c. search needs)
+    (λ c. search needs)
+    (λ c. search needs)
+    slice-read-wide
+    (λ c κs. search needs)
+    same-length
+    returns
     (λ c. search needs)
     loop-less
     loop-again
-    returns-3)
+    (λ c. search needs)
+    (λ c. search needs)
+    (λ c. search needs)
+    same-length-2
+    returns-2)

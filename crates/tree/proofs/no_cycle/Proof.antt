@@ -7,7 +7,7 @@ use lib.Dec.{lit<}
 use borrow.Author.Needs.{needs}
 use Rattle.func.specs.Store.{count}
 use Rattle.tree.specs.Test.{parentIn, acyclic}
-use Rattle.tree.proofs.Laws.{table-low, table-acyclic}
+use Rattle.tree.proofs.Laws.{around-own, table-low, table-acyclic}
 use Rattle.tree.proofs.no_cycle.Statement.{statement}
 use Rattle.tree.proofs.no_cycle.Tie as tie
 
@@ -24,29 +24,39 @@ clear-marks-requires c κs = room c
 adopt-all-requires : tie.Need-adopt-all-requires
 adopt-all-requires c κs = let s = c .before .before .before .before .before .before .before .before .before in (s .pre .0, (c .before .before .before .before .before .wide .ensures ∙ c .before .before .before .before .before .before .count .ensures, omega (arith, s .pre .1, c .before .before .before .clear-marks .ensures .1)))
 
-none-around-requires : tie.Need-none-around-requires
-none-around-requires c κs =
+clear-stamps-requires : tie.Need-clear-stamps-requires
+clear-stamps-requires c κs =
     let t = c .before .before .before .adopt-all in
     let z = c .before .before .before .before .before .before .before .clear-marks in
+    let s = c .before .before .before .before .before .before .before .before .before .before .before .before .before in
+    let n = c .before .before .before .before .before .before .before .before .before .wide in
     let h = room (c .before .before .before .before .before .before .before .before) in (
-      omega (arith, t .ensures .1, z .ensures .1),
-      table-low (c .before .before .before .before .before .before .before .before .before .before .before .before .before .args .func .now) (c .before .before .before .before .before .before .before .before .before .wide .result) (z .last .0) (t .last .1 .1 .0) (omega (arith, z .ensures .1)) (z .ensures .0) (t .ensures .0),
+      omega (arith, n .ensures, c .before .before .before .before .before .before .before .before .before .before .count .ensures, s .pre .0 .safe .region-room),
+      omega (arith, s .pre .1, t .ensures .1, z .ensures .1),
+      table-low (s .args .func .now) (n .result) (z .last .0) (t .last .1 .1 .0) (omega (arith, z .ensures .1)) (z .ensures .0) (t .ensures .0),
     )
 
+none-around-requires : tie.Need-none-around-requires
+none-around-requires c κs =
+    let k = c .before .before .before .clear-stamps in
+    around-own (c .before .before .before .before .before .before .before .before .before .before .before .before .before .wide .result) 0 (c .before .before .before .before .before .before .before .adopt-all .last .1 .1 .0) (k .last .0) (k .ensures .0)
+
 same-length : tie.Need-same-length
-same-length c = c .before .before .before .before .adopt-all .ensures .1 ∙ c .before .before .before .before .before .before .before .before .clear-marks .ensures .1
+same-length c = c .before .before .none-around .ensures .1 ∙ c .before .before .before .before .before .before .clear-stamps .ensures .1 ∙ c .before .before .before .before .before .before .before .before .before .before .adopt-all .ensures .1 ∙ c .before .before .before .before .before .before .before .before .before .before .before .before .before .before .clear-marks .ensures .1
 
 returns : tie.Need-returns
 returns c =
-    let w = c .before .before .before .before .before .before .before .before .before .before .before .before .before .before .args .func .now in
-    let t = c .before .before .before .before .adopt-all in
-    let z = c .before .before .before .before .before .before .before .before .clear-marks in
-    let n = c .before .before .before .before .before .before .before .before .before .before .wide in
-    let h = room (c .before .before .before .before .before .before .before .before .before) in (
-      c .none-around .ensures
-          ∙ table-acyclic w (n .result) (z .last .0) (t .last .1 .1 .0) (omega (arith, z .ensures .1)) (z .ensures .0) (t .ensures .0)
-          ∙ ap (λ n. acyclic (parentIn w n) n) (n .ensures ∙ c .before .before .before .before .before .before .before .before .before .before .before .count .ensures),
-      t .ensures .1 ∙ z .ensures .1,
+    let w = c .before .before .before .before .before .before .before .before .before .before .before .before .before .before .before .before .before .before .before .before .args .func .now in
+    let r = c .before .before .none-around in
+    let k = c .before .before .before .before .before .before .clear-stamps in
+    let t = c .before .before .before .before .before .before .before .before .before .before .adopt-all in
+    let z = c .before .before .before .before .before .before .before .before .before .before .before .before .before .before .clear-marks in
+    let n = c .before .before .before .before .before .before .before .before .before .before .before .before .before .before .before .before .wide in
+    let h = room (c .before .before .before .before .before .before .before .before .before .before .before .before .before .before .before) in (
+      r .ensures .0
+          ∙ table-acyclic w (n .result) (z .last .0) (t .last .1 .1 .0) (omega (arith, z .ensures .1)) (z .ensures .0) (t .ensures .0) (k .last .0) (k .ensures .0 .same)
+          ∙ ap (λ n. acyclic (parentIn w n) n) (n .ensures ∙ c .before .before .before .before .before .before .before .before .before .before .before .before .before .before .before .before .before .count .ensures),
+      r .ensures .1 ∙ k .ensures .1 ∙ t .ensures .1 ∙ z .ensures .1,
     )
 
 pub no-cycle-spec : {M : Type 1} → statement M
@@ -57,6 +67,7 @@ no-cycle-spec =
     (λ c κs. search needs)
     clear-marks-requires
     adopt-all-requires
+    clear-stamps-requires
     none-around-requires
     same-length
     returns)

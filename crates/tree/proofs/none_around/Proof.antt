@@ -1,48 +1,54 @@
--- `tree::none_around` meets its contract: none of the regions passed lies around itself. Assumes nothing.
-use mathlib.Core.Path.{_≡_, sym, _∙_}
-use mathlib.Core.Bool.{not}
+-- `tree::none_around` meets its contract: the climbs from the regions passed are over. Assumes nothing.
+use mathlib.Core.Path.{_≡_, refl, _∙_}
 use Prim.Native.Nat.{_≤_, _-_}
 use native.Mathlib.Omega.{arith}
-use lib.ListN.{getD}
+use lib.ListN.{length}
 use borrow.Author.Needs.{needs}
-use Rattle.lifting.specs.Lists.{every, tabulate}
-use Rattle.tree.specs.Test.{climbs, acyclic}
-use Rattle.tree.proofs.Laws.{around-first, around-hit, around-next, around-done}
+use Rattle.tree.specs.Stamps.{parent, Stamped}
+use Rattle.tree.proofs.Laws.{around-own, around-hit, around-next, around-done}
 use Rattle.tree.proofs.none_around.Statement.{statement}
 use Rattle.tree.proofs.none_around.Tie as tie
 
 abbrev Inv-loop : tie.InvT-loop
-Inv-loop parents n r₀ r = (r ≤ n) × (acyclic (λ c. getD parents c 0) n ≡ every (λ s. not (climbs (λ c. getD parents c 0) s n s)) (tabulate (λ i. i) r (n - r)))
+Inv-loop work₀ n r₀ work r = (r ≤ n) × (length work ≡ length work₀) × Stamped (parent work₀) n r work
 
 abbrev μ-loop : tie.MeasureT-loop
-μ-loop parents n r₀ r = n - r
+μ-loop work₀ n r₀ work r = n - r
 
 loop-holds : tie.Need-loop-holds Inv-loop μ-loop
-loop-holds c = let a = c .before .args in (omega arith, around-first (λ c. getD (a .parents .now) c 0) (a .n))
+loop-holds c = (omega arith, refl, c .before .pre)
 
 climbs-back-requires : tie.Need-climbs-back-requires Inv-loop μ-loop
-climbs-back-requires c κs = (omega arith, c .before .before .before .pre .0, c .before .before .before .pre .1)
+climbs-back-requires c κs =
+    let l = c .before .before .loop in
+    let a = c .before .before .before .before .args in
+    (omega arith, around-own (a .n) (l .r) (a .work .now) (l .work) (l .inv .2))
+
+same-length : tie.Need-same-length Inv-loop μ-loop
+same-length c = c .before .before .before .climbs-back .ensures .1 ∙ c .before .before .before .before .before .before .loop .inv .1
 
 returns : tie.Need-returns Inv-loop μ-loop
 returns c =
-    let l = c .before .before .before .loop in
-    let a = c .before .before .before .before .before .args in
-    sym (l .inv .1 ∙ around-hit (λ c. getD (a .parents .now) c 0) (a .n) (l .r) (omega arith) (sym (c .before .climbs-back .ensures) ∙ c .if1 .taken))
-
-loop-less : tie.Need-loop-less Inv-loop μ-loop
-loop-less c = omega arith
+    let l = c .before .before .before .before .before .before .loop in
+    let a = c .before .before .before .before .before .before .before .before .args in
+    let k = c .before .before .before .climbs-back in
+    (around-hit (a .n) (l .r) (a .work .now) (l .work) (l .inv .2) (k .result) (k .last .0) (k .ensures .0) (c .if1 .taken), k .ensures .1 ∙ l .inv .1)
 
 loop-again : tie.Need-loop-again Inv-loop μ-loop
 loop-again c =
-    let l = c .before .before .before .loop in
-    let a = c .before .before .before .before .before .args in
-    (omega arith, l .inv .1 ∙ around-next (λ c. getD (a .parents .now) c 0) (a .n) (l .r) (omega arith) (sym (c .before .climbs-back .ensures) ∙ c .if1 .left))
+    let l = c .before .before .before .before .before .before .loop in
+    let a = c .before .before .before .before .before .before .before .before .args in
+    let k = c .before .before .before .climbs-back in
+    (omega arith, k .ensures .1 ∙ l .inv .1, around-next (a .n) (l .r) (a .work .now) (l .work) (l .inv .2) (k .result) (k .last .0) (k .ensures .0) (c .if1 .left))
+
+same-length-2 : tie.Need-same-length-2 Inv-loop μ-loop
+same-length-2 c = c .before .loop .inv .1
 
 returns-2 : tie.Need-returns-2 Inv-loop μ-loop
 returns-2 c =
     let l = c .before .loop in
     let a = c .before .before .before .args in
-    sym (l .inv .1 ∙ around-done (λ c. getD (a .parents .now) c 0) (a .n) (l .r) (omega arith))
+    (around-done (a .n) (l .r) (a .work .now) (l .work) (l .inv .2) (omega arith), l .inv .1)
 
 pub none-around-spec : {M : Type 1} → statement M
 none-around-spec =
@@ -52,8 +58,10 @@ none-around-spec =
     μ-loop
     loop-holds
     climbs-back-requires
+    same-length
     returns
     (λ c. search needs)
-    loop-less
+    (λ c. search needs)
     loop-again
+    same-length-2
     returns-2)
