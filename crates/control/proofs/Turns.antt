@@ -16,7 +16,7 @@ use Rattle.func.specs.declared.CtrlAt.the-variants.{At, Nothing}
 use Rattle.func.specs.Search.{CtrlIs, CtrlHere}
 use Rattle.func.specs.Decode.{funcOf}
 use Rattle.func.specs.Tables.{Tables, ctrlLine}
-use Rattle.control.specs.Tables.{linesAt, marksAt, tablesEnd, Named, Indexed, Marked, split, marked-more, marked-not, marked-is, line-none, line-here}
+use Rattle.control.specs.Tables.{linesAt, marksAt, tablesEnd, Named, Indexed, Marked, Above, above-none, above-set, above-more, split, marked-more, marked-not, marked-is, line-none, line-here}
 use Rattle.control.specs.Visit.{rootsEnd, ways, listed, unseen, unseen-same, unseen-set, unseen-most, Stands, Low, Ready, Visited, ahead, ahead-all, listed-same, listed-more}
 
 -- a ctrl line that was found, or none
@@ -65,6 +65,7 @@ pub record Turn (func : List ℕ) (r n : ℕ) (w : List ℕ) (i : ℕ) (work : L
   pub room : at + unseen work (length (funcOf func .regions)) ≤ n + unseen w (length (funcOf func .regions))
   pub less : unseen work (length (funcOf func .regions)) ≤ unseen w (length (funcOf func .regions))
   pub low : Low (funcOf func) work at
+  pub above : Above tablesEnd w work
   pub left : (k : ℕ) (s : Seen) → unseen w (length (funcOf func .regions)) ≤ k → Stands w n s → Left (funcOf func) r k s i work at
 
 -- a root is marked
@@ -77,6 +78,9 @@ module _ {func w : List ℕ} {r n : ℕ} (p : Ready func w r n) {u : List ℕ} (
 
   other : (x : ℕ) → x < marksAt → getD u x 0 ≡ getD w x 0
   other x l = ap (λ (z : List ℕ). getD z x 0) e ∙ getD-set-other w (marksAt + r) x 1 0 (λ y. omega arith)
+
+  above-u : Above tablesEnd w u
+  above-u = subst (Above tablesEnd w) (sym e) (above-set (above-none tablesEnd w) (marksAt + r) 1 (omega (arith, p .known, p .named .few)))
 
   size-u : length u ≡ length w
   size-u = ap length e ∙ length-set w (marksAt + r) 1
@@ -114,6 +118,7 @@ module _ {func w : List ℕ} {r n : ℕ} (p : Ready func w r n) {u : List ℕ} (
         room = omega arith;
         less = omega arith;
         low = record { word = λ x l b. subst (λ (y : ℕ). y < N) (sym (other x (omega arith))) (p .low .word x l b) };
+        above = above-none tablesEnd u;
         left = λ k s l d. record { now = s; stands = d; rest = ap (λ (ts : List ℕ). along F k ts s) (sym (ahead-all (ways F r)) ∙ ap (ahead (ways F r)) (sym c)) };
       }
 
@@ -162,6 +167,7 @@ module _ {func w : List ℕ} {r n : ℕ} (p : Ready func w r n) {u : List ℕ} (
             (λ y. omega (arith, ap (λ (j : ℕ). getD out j 0) y ∙ ap (λ (j : List ℕ). getD j (rootsEnd - 1 - at) 0) eo ∙ getD-set-same work (rootsEnd - 1 - at) r 0 here-at, p .known))
             (λ y. omega (arith, ap (λ (j : List ℕ). getD j x 0) eo ∙ getD-set-other work (rootsEnd - 1 - at) x r 0 y, t .low .word x (omega arith) b));
       };
+      above = subst (Above tablesEnd w) (sym eo) (above-set (above-more above-u (t .above)) (rootsEnd - 1 - at) r (omega arith));
     }
       where
         go : (k : ℕ) (s : Seen) → unseen w N ≤ k → Stands w n s → Stands out m (visit F k r s)
@@ -208,6 +214,7 @@ module _ {func : List ℕ} {r n : ℕ} {w : List ℕ} {i : ℕ} {work : List ℕ
         room = t .room;
         less = t .less;
         low = t .low;
+        above = t .above;
         left = λ k s l d.
             let q = t .left k s l d in
             let p : visit (funcOf func) k x (q .now) ≡ q .now = passed k (q .now) (marked-is (q .stands .marks) x (turn-mark .0) h) in
@@ -246,6 +253,7 @@ module _ {func : List ℕ} {r n : ℕ} {w : List ℕ} {i : ℕ} {work : List ℕ
           room = omega (arith, v .room, t .room);
           less = omega (arith, v .less, t .less);
           low = v .low;
+          above = above-more (t .above) (v .above);
           left = λ k s l d.
               let q = t .left k s l d in
               record { now = visit (funcOf func) k x (q .now); stands = v .reach k (q .now) (omega (arith, t .less)) (q .stands); rest = step q };

@@ -1,5 +1,6 @@
 -- Tables of the work slice, with a word for each of 128 regions: ctrl lines from word 512 on, marks of children from word 640 on, and marks of
 -- the walk from word 768 on. Assumes nothing.
+--     beside-.., above-..     words that stay
 --     blank-..       words that are cleared
 --     marked-..      marks that are set one after the other, and what they say
 --     line-none, line-here, line-known     what the word of a region says of its ctrl line
@@ -83,6 +84,23 @@ beside-set {b} {w} {u} k r v h = record {
 
 pub beside-more : {b : ℕ} {w u v : List ℕ} → Beside b w u → Beside b u v → Beside b w v
 beside-more k m = record { before = λ x l. m .before x l ∙ k .before x l; after = λ x l. m .after x l ∙ k .after x l }
+
+-- words from word b on stay
+pub record Above (b : ℕ) (w u : List ℕ) : Type 0 where
+  pub word : (x : ℕ) → b ≤ x → getD u x 0 ≡ getD w x 0
+
+pub above-none : (b : ℕ) (w : List ℕ) → Above b w w
+above-none b w = record { word = λ x h. refl }
+
+pub above-set : {b : ℕ} {w u : List ℕ} → Above b w u → (i v : ℕ) → i < b → Above b w (set u i v)
+above-set {b} {w} {u} k i v h = record { word = λ x l. getD-set-other u i x v 0 (λ e. omega arith) ∙ k .word x l }
+
+pub above-more : {b : ℕ} {w u v : List ℕ} → Above b w u → Above b u v → Above b w v
+above-more k m = record { word = λ x l. m .word x l ∙ k .word x l }
+
+-- a table that ends there, or before, is filled
+pub above-beside : {b c : ℕ} {w u : List ℕ} → Beside b w u → b + 128 ≤ c → Above c w u
+above-beside k h = record { word = λ x l. k .after x (omega arith) }
 
 -- what is one thing or the other
 abbrev pub split : {P A : Type 0} → Dec P → (P → A) → (¬ P → A) → A

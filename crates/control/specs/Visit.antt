@@ -19,7 +19,7 @@ use Rattle.lifting.specs.Parts.{ctrlOf}
 use Rattle.lifting.specs.Order.{Seen, targetsOf, visit}
 use Rattle.func.specs.Decode.{funcOf}
 use Rattle.func.specs.Tables.{Tables}
-use Rattle.control.specs.Tables.{marksAt, linesAt, tablesEnd, Named, Indexed, Marked, split}
+use Rattle.control.specs.Tables.{marksAt, linesAt, tablesEnd, Named, Indexed, Marked, Above, split}
 
 -- the targets of a root
 abbrev pub ways : Func → ℕ → List ℕ
@@ -65,6 +65,7 @@ pub record Visited (F : Func) (w : List ℕ) (r n : ℕ) (u : List ℕ) (m : ℕ
   pub less : unseen u (length (F .regions)) ≤ unseen w (length (F .regions))
   pub lines : (x : ℕ) → x < 128 → getD u (linesAt + x) 0 ≡ getD w (linesAt + x) 0
   pub low : Low F u m
+  pub above : Above tablesEnd w u
 
 -- ---- regions without a mark
 

@@ -28,7 +28,7 @@ ghost use Rattle.lifting.specs.Parts.{childList};
 ghost use Rattle.lifting.specs.Control.{isRoot, ctrlFits, controlFits};
 ghost use Rattle.func.specs.Decode.{funcOf};
 ghost use Rattle.func.specs.Tables.{Tables, ctrlLine};
-ghost use Rattle.control.specs.Tables.{childrenAt, tablesEnd, Named, Indexed, Marked};
+ghost use Rattle.control.specs.Tables.{childrenAt, tablesEnd, Named, Indexed, Marked, Above};
 ghost use Rattle.control.specs.Visit.{listed, Low};
 ghost use Rattle.control.specs.Loops.{targetFits, lineFits, kindTest};
 
@@ -242,13 +242,12 @@ fn have_ctrls(func: &[u32], work: &[u32], n: usize) -> bool
     true
 }
 
-// The text in the function slice passes refusal 7.
+// The text in the function slice passes refusal 7. Words of the work slice from 896 on stay.
 pub fn control(func: &[u32], work: &mut [u32]) -> bool
     requires { ⌜ Tables (now func) ⌝ }
     requires { ⌜ Named (funcOf (now func)) ⌝ }
     requires { ⌜ scratchWords ≤ length (now work) ⌝ }
-    ensures { λ r. ⌜ r ≡ controlFits (funcOf (now (func .entry))) ⌝ }
-    ensures { λ _. ⌜ length (now (work .exit)) ≡ length (now (work .entry)) ⌝ }
+    ensures { λ r. ⌜ (r ≡ controlFits (funcOf (now (func .entry)))) × (length (now (work .exit)) ≡ length (now (work .entry))) × Above tablesEnd (now (work .entry)) (now (work .exit)) ⌝ }
 {
     if !index(func, work) {
         return false;

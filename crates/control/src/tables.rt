@@ -17,7 +17,7 @@ ghost use Rattle.lifting.specs.Parts.{nodeOf, childrenOf, childList};
 ghost use Rattle.func.specs.Decode.{funcOf};
 ghost use Rattle.func.specs.Tables.{Tables};
 ghost use Rattle.func.specs.Search.{CtrlIs};
-ghost use Rattle.control.specs.Tables.{linesAt, childrenAt, marksAt, tablesEnd, Named, Blank, Indexed, Marked, Beside};
+ghost use Rattle.control.specs.Tables.{linesAt, childrenAt, marksAt, tablesEnd, Named, Blank, Indexed, Marked, Beside, Above};
 
 pub const LINES: usize = 512;
 
@@ -31,6 +31,7 @@ const TABLES_END: usize = 896;
 fn clear(work: &mut [u32])
     requires { ⌜ tablesEnd ≤ length (now work) ⌝ }
     ensures { λ _. ⌜ Blank (now (work .exit)) ⌝ }
+    ensures { λ _. ⌜ Above tablesEnd (now (work .entry)) (now (work .exit)) ⌝ }
     ensures { λ _. ⌜ length (now (work .exit)) ≡ length (now (work .entry)) ⌝ }
 {
     let mut i = LINES;
@@ -82,6 +83,7 @@ pub fn index(func: &[u32], work: &mut [u32]) -> bool
     ensures { λ x. ⌜ x ≡ distinct (keys (funcOf (now (func .entry)) .ctrls)) ⌝ }
     ensures { λ _. ⌜ Indexed (funcOf (now (func .entry))) (now (work .exit)) ⌝ }
     ensures { λ _. ⌜ Marked childrenAt [] (now (work .exit)) × Marked marksAt [] (now (work .exit)) ⌝ }
+    ensures { λ _. ⌜ Above tablesEnd (now (work .entry)) (now (work .exit)) ⌝ }
     ensures { λ _. ⌜ length (now (work .exit)) ≡ length (now (work .entry)) ⌝ }
 {
     clear(work);

@@ -14,7 +14,7 @@ ghost use Rattle.lifting.specs.Limits.{scratchWords};
 ghost use Rattle.lifting.specs.Order.{roots};
 ghost use Rattle.func.specs.Decode.{funcOf};
 ghost use Rattle.func.specs.Tables.{Tables};
-ghost use Rattle.control.specs.Tables.{marksAt, tablesEnd, Named, Indexed, Marked};
+ghost use Rattle.control.specs.Tables.{marksAt, tablesEnd, Named, Indexed, Marked, Above};
 ghost use Rattle.control.specs.Visit.{rootsEnd, ways, listed, Low, Ready, Visited};
 
 pub const ROOTS_END: usize = 512;
@@ -104,12 +104,14 @@ pub fn order(func: &[u32], work: &mut [u32]) -> usize
     ensures { λ n. ⌜ n ≤ length (funcOf (now (func .entry)) .regions) ⌝ }
     ensures { λ n. ⌜ Low (funcOf (now (func .entry))) (now (work .exit)) n ⌝ }
     ensures { λ _. ⌜ Indexed (funcOf (now (func .entry))) (now (work .exit)) ⌝ }
+    ensures { λ _. ⌜ Above tablesEnd (now (work .entry)) (now (work .exit)) ⌝ }
     ensures { λ _. ⌜ length (now (work .exit)) ≡ length (now (work .entry)) ⌝ }
 {
     visit(func, work, 0, 0)
 }
 
-// The roots: how many they are. They stand before word 512 of the work slice, and the table of ctrl lines by region stands there too.
+// The roots: how many they are. They stand before word 512 of the work slice, and the table of ctrl lines by region stands there too. Words from
+// 896 on stay.
 pub fn reached(func: &[u32], work: &mut [u32]) -> usize
     requires { ⌜ Tables (now func) ⌝ }
     requires { ⌜ Named (funcOf (now func)) ⌝ }
@@ -119,6 +121,7 @@ pub fn reached(func: &[u32], work: &mut [u32]) -> usize
     ensures { λ n. ⌜ n ≤ length (funcOf (now (func .entry)) .regions) ⌝ }
     ensures { λ n. ⌜ Low (funcOf (now (func .entry))) (now (work .exit)) n ⌝ }
     ensures { λ _. ⌜ Indexed (funcOf (now (func .entry))) (now (work .exit)) ⌝ }
+    ensures { λ _. ⌜ Above tablesEnd (now (work .entry)) (now (work .exit)) ⌝ }
     ensures { λ _. ⌜ length (now (work .exit)) ≡ length (now (work .entry)) ⌝ }
 {
     index(func, work);

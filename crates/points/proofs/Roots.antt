@@ -1,27 +1,28 @@
 -- The walk of the roots, and what the whole walk leaves in the work slice. Assumes nothing.
 --     Rooting, rooting-..     the loop over the roots
---     tables-end              the tables that stand at the end
-use mathlib.Core.Path.{_≡_, sym, ap, subst, _∙_}
+--     tables-end              the tables that stand at the end, and the words that stay
+use mathlib.Core.Path.{_≡_, refl, sym, ap, subst, _∙_}
 use mathlib.Core.List.{List, map}
 use Prim.Native.Nat.{ℕ, _+_, _-_, _≤_, _<_}
 use native.Mathlib.Omega.{arith}
 use lib.ListN.{length, getD, take, length-map}
 use lib.Seq.{sets}
-use Rattle.words.specs.Part.{at-before, at-after}
+use Rattle.words.specs.Part.{part-at, part-same, at-before, at-after}
 use Rattle.lifting.specs.Lists.{gather}
 use Rattle.lifting.specs.Ast.{Func}
 use Rattle.lifting.specs.Order.{roots}
-use Rattle.lifting.specs.Points.{points}
+use Rattle.lifting.specs.Points.{CfgPoint, points}
 use Rattle.lifting.specs.Walk.{walkOf}
 use Rattle.func.specs.Decode.{funcOf}
 use Rattle.func.specs.Tables.{Tables}
 use Rattle.runs.specs.Members.{In, in-getD, length-tabulate}
-use Rattle.control.specs.Tables.{linesAt, Indexed, Beside}
+use Rattle.control.specs.Tables.{linesAt, tablesEnd, Indexed, Beside, Above}
 use Rattle.control.specs.Visit.{rootsEnd, listed, listed-same}
 use Rattle.points.specs.Numbers.{pointsAt, pointsEnd, pointNumber, visited, visited-sets, getD-tabulate}
 use Rattle.points.specs.Below.{regionWords, walk-words}
-use Rattle.points.specs.Parents.{parentsAt, Parents}
+use Rattle.points.specs.Parents.{parentsAt, parentsEnd, parentOf, Parents}
 use Rattle.points.specs.Walk.{Walkable, Ready, Walked, few-nodes, root-low, walk-small, walk-few, length-points}
+use Rattle.points.specs.Words.{WalkWords, by-place}
 use Rattle.points.proofs.Laws.{Turn, turn-first, turn-length, turn-room, turn-next, turn-all}
 
 -- how many words the walk has
@@ -103,36 +104,71 @@ module _ {func w : List ℕ} {n i : ℕ} {work : List ℕ} {at : ℕ} (s : Rooti
 pub roots-kept : {v u : List ℕ} (n : ℕ) → Beside parentsAt v u → n ≤ 128 → listed u n ≡ listed v n
 roots-kept {v} {u} n b h = listed-same v u n (omega arith) (λ x l g. b .before x (omega arith))
 
--- what stands once the points do, where v has the ctrl lines and u the parents too
-pub record End (F : Func) (out : List ℕ) (m : ℕ) : Type 0 where
+-- what a run of stores leaves at one of its places
+at-in : (w vs : List ℕ) (a i : ℕ) → i < length vs → a + length vs ≤ length w → getD (sets w a vs) (a + i) 0 ≡ getD vs i 0
+at-in w vs a i h z = sym (part-at a (length vs) (sets w a vs) i h) ∙ ap (λ (l : List ℕ). getD l i 0) (part-same a (length vs) vs w refl z)
+
+-- what stands once the points do, where w has the words at entry, v the ctrl lines, and u the parents too
+pub record End (F : Func) (w out : List ℕ) (m : ℕ) : Type 0 where
   pub count : m ≡ length (walkOf F)
   pub points : visited out m ≡ points (walkOf F)
   pub most : m ≤ 512
   pub parents : Parents F out
   pub lines : Indexed F out
+  pub words : WalkWords F w out
 
-pub tables-end : {func v u out : List ℕ} {m : ℕ} → Tables func → Walkable (funcOf func) → pointsEnd ≤ length u → Walked (funcOf func) u out m → Parents (funcOf func) u
-    → Beside parentsAt v u → Indexed (funcOf func) v → End (funcOf func) out m
-tables-end {func} {v} {u} {out} {m} t ok z d p b k =
-    let F = funcOf func in
-    let ps = points (walkOf F) in
-    let few : length ps ≤ 512 = walk-few F ok (few-nodes t) in
-    let words : length (map pointNumber ps) ≤ 512 = omega (arith, length-map ps pointNumber) in
-    record {
-      count = d .number ∙ length-points (walkOf F);
-      points =
-          ap (visited out) (d .number)
-          ∙ ap (λ (w : List ℕ). visited w (length ps)) (d .words)
-          ∙ visited-sets u ps (walk-small F ok (few-nodes t)) (omega arith);
-      most = omega (arith, d .number);
-      parents = record {
-        word = λ r h. ap (λ (w : List ℕ). getD w (parentsAt + r) 0) (d .words) ∙ at-after u (map pointNumber ps) pointsAt (parentsAt + r) (omega arith) ∙ p .word r h;
-      };
-      lines = record {
-        line = λ r h.
-            ap (λ (w : List ℕ). getD w (linesAt + r) 0) (d .words)
-            ∙ at-before u (map pointNumber ps) pointsAt (linesAt + r) (omega arith)
-            ∙ b .before (linesAt + r) (omega arith)
-            ∙ k .line r h;
-      };
-    }
+module _ {func w v u out : List ℕ} {m : ℕ} (t : Tables func) (ok : Walkable (funcOf func)) (z : pointsEnd ≤ length u) (d : Walked (funcOf func) u out m)
+    (p : Parents (funcOf func) u) (b : Beside parentsAt v u) (k : Indexed (funcOf func) v) (a : Above tablesEnd w v) where
+  abbrev G : Func
+  G = funcOf func
+
+  abbrev ps : List CfgPoint
+  ps = points (walkOf G)
+
+  few : length ps ≤ 512
+  few = walk-few G ok (few-nodes t)
+
+  size : length (map pointNumber ps) ≡ length ps
+  size = length-map ps pointNumber
+
+  -- words around the points
+  before : (x : ℕ) → x < pointsAt → getD out x 0 ≡ getD u x 0
+  before x h = ap (λ (y : List ℕ). getD y x 0) (d .words) ∙ at-before u (map pointNumber ps) pointsAt x h
+
+  after : (x : ℕ) → pointsAt + length ps ≤ x → getD out x 0 ≡ getD u x 0
+  after x h = ap (λ (y : List ℕ). getD y x 0) (d .words) ∙ at-after u (map pointNumber ps) pointsAt x (omega (arith, size))
+
+  point : (x : ℕ) → pointsAt ≤ x → x < pointsAt + length ps → getD out x 0 ≡ getD (map pointNumber ps) (x - pointsAt) 0
+  point x g h =
+      let e : x ≡ pointsAt + (x - pointsAt) = omega arith in
+      ap (λ (y : List ℕ). getD y x 0) (d .words)
+      ∙ ap (λ (j : ℕ). getD (sets u pointsAt (map pointNumber ps)) j 0) e
+      ∙ at-in u (map pointNumber ps) pointsAt (x - pointsAt) (omega (arith, size)) (omega (arith, size, few))
+
+  parent : (x : ℕ) → parentsAt ≤ x → x < parentsEnd → getD out x 0 ≡ parentOf G (x - parentsAt)
+  parent x g h =
+      let e : x ≡ parentsAt + (x - parentsAt) = omega arith in
+      after x (omega (arith, few)) ∙ ap (λ (j : ℕ). getD u j 0) e ∙ p .word (x - parentsAt) (omega arith)
+
+  all-words : WalkWords G w out
+  all-words = record {
+    word = λ x l. by-place G (λ y. getD w y 0) x
+        (λ h. before x h ∙ b .before x (omega arith) ∙ a .word x l)
+        (λ g h. point x g (omega (arith, length-points (walkOf G))))
+        (λ g h. after x (omega (arith, length-points (walkOf G))) ∙ b .before x h ∙ a .word x l)
+        (parent x)
+        (λ h. after x (omega (arith, few)) ∙ b .after x (omega arith) ∙ a .word x l);
+  }
+
+  pub tables-end : End G w out m
+  tables-end = record {
+    count = d .number ∙ length-points (walkOf G);
+    points =
+        ap (visited out) (d .number)
+        ∙ ap (λ (y : List ℕ). visited y (length ps)) (d .words)
+        ∙ visited-sets u ps (walk-small G ok (few-nodes t)) (omega (arith, few));
+    most = omega (arith, d .number, few);
+    parents = record { word = λ r h. after (parentsAt + r) (omega (arith, few)) ∙ p .word r h };
+    lines = record { line = λ r h. before (linesAt + r) (omega arith) ∙ b .before (linesAt + r) (omega arith) ∙ k .line r h };
+    words = all-words;
+  }

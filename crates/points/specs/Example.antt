@@ -1,4 +1,5 @@
--- The walk of a text by computation: its points by number, the points that the numbers say, and the parents of its regions. Assumes nothing.
+-- The walk of a text by computation: its points by number, the points that the numbers say, the parents of its regions, and words that it leaves.
+-- Assumes nothing.
 use mathlib.Core.Path.{_≡_, refl}
 use mathlib.Core.List.{List, [], _∷_, _++_, map}
 use mathlib.Core.Option.{Option, none, some}
@@ -13,6 +14,7 @@ use Rattle.lifting.specs.Points.{regionEntry, regionExit, nodeEntry, nodeExit, 
 use Rattle.lifting.specs.Walk.{walkOf}
 use Rattle.points.specs.Numbers.{pointNumber, pointOf}
 use Rattle.points.specs.Parents.{parentOf}
+use Rattle.points.specs.Words.{walkWord}
 
 -- a block, and a select whose second case holds a loop; region 4 follows region 0
 text : List ℕ
@@ -49,3 +51,12 @@ points-of = refl
 parents-of : parents (read text) ≡ 0 ∷ 2 ∷ 2 ∷ 3 ∷ 0 ∷ []
 unfolding text read ℕ-discrete
 parents-of = refl
+
+-- the words at the ends of both tables and beside them, where each word was 7: 16 points from word 1,024 on, 128 parents from word 1,536 on
+abbrev words : Option Func → List ℕ
+words none = []
+words (some F) = map (walkWord F (λ x. 7)) (1023 ∷ 1024 ∷ 1039 ∷ 1040 ∷ 1535 ∷ 1536 ∷ 1537 ∷ 1663 ∷ 1664 ∷ [])
+
+words-of : words (read text) ≡ 7 ∷ 0 ∷ 9 ∷ 7 ∷ 7 ∷ 0 ∷ 2 ∷ 0 ∷ 7 ∷ []
+unfolding text read walkOf roots ℕ-discrete walkWord
+words-of = refl

@@ -3,4 +3,5 @@ pub mod Numbers
 pub mod Below
 pub mod Parents
 pub mod Walk
+pub mod Words
 pub mod Example

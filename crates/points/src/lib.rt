@@ -26,6 +26,7 @@ ghost use Rattle.points.specs.Numbers.{pointsAt, pointsEnd, visited};
 ghost use Rattle.points.specs.Below.{regionWords, nodeWords};
 ghost use Rattle.points.specs.Parents.{Parents};
 ghost use Rattle.points.specs.Walk.{Walkable, Ready, Walked};
+ghost use Rattle.points.specs.Words.{WalkWords};
 
 pub const POINTS: usize = 1024;
 
@@ -105,7 +106,7 @@ fn walk_roots(func: &[u32], work: &mut [u32], n: usize) -> usize
 }
 
 // The points in the order of the walk: how many they are. Their numbers stand from word 1,024 of the work slice on, the parents of regions from
-// word 1,536 on, and the table of ctrl lines by region stands there too.
+// word 1,536 on, and the table of ctrl lines by region stands there too. From word 896 on no other word is written.
 pub fn walk(func: &[u32], work: &mut [u32]) -> usize
     requires { ⌜ Tables (now func) ⌝ }
     requires { ⌜ Walkable (funcOf (now func)) ⌝ }
@@ -115,6 +116,7 @@ pub fn walk(func: &[u32], work: &mut [u32]) -> usize
     ensures { λ m. ⌜ m ≤ 512 ⌝ }
     ensures { λ _. ⌜ Parents (funcOf (now (func .entry))) (now (work .exit)) ⌝ }
     ensures { λ _. ⌜ Indexed (funcOf (now (func .entry))) (now (work .exit)) ⌝ }
+    ensures { λ _. ⌜ WalkWords (funcOf (now (func .entry))) (now (work .entry)) (now (work .exit)) ⌝ }
     ensures { λ _. ⌜ length (now (work .exit)) ≡ length (now (work .entry)) ⌝ }
 {
     let n = reached(func, work);

@@ -1,4 +1,5 @@
--- `points::walk` meets its contract: the roots outlast the table of parents, and both tables outlast the points. Assumes nothing.
+-- `points::walk` meets its contract: the roots outlast the table of parents, both tables outlast the points, and no other word is written.
+-- Assumes nothing.
 use mathlib.Core.Path.{_∙_}
 use native.Mathlib.Omega.{arith}
 use Rattle.points.proofs.Roots.{roots-kept, tables-end}
@@ -12,7 +13,7 @@ parents-requires : tie.Need-parents-requires
 parents-requires c κs =
     let p = c .before .before .before .before .before .before .before .pre in
     let r = c .before .before .before .reached .ensures in
-    (p .0, (p .1 .0 .named, omega (arith, p .1 .1, r .1 .1 .1 .1)))
+    (p .0, (p .1 .0 .named, omega (arith, p .1 .1, r .1 .1 .1 .1 .1)))
 
 walk-roots-requires : tie.Need-walk-roots-requires
 walk-roots-requires c κs =
@@ -20,11 +21,11 @@ walk-roots-requires c κs =
     let r = c .before .before .before .before .before .before .before .reached .ensures in
     let q = c .before .before .before .parents .ensures in (
       p .0,
-      (p .1 .0, (omega (arith, p .1 .1, r .1 .1 .1 .1, q .1 .1), (roots-kept (c .before .before .before .before .before .before .before .reached .result) (q .1 .0) (omega (arith, r .1 .0, p .1 .0 .named .few)) ∙ r .0, r .1 .0))),
+      (p .1 .0, (omega (arith, p .1 .1, r .1 .1 .1 .1 .1, q .1 .1), (roots-kept (c .before .before .before .before .before .before .before .reached .result) (q .1 .0) (omega (arith, r .1 .0, p .1 .0 .named .few)) ∙ r .0, r .1 .0))),
     )
 
 same-length : tie.Need-same-length
-same-length c = c .before .before .walk-roots .ensures .1 ∙ c .before .before .before .before .before .before .parents .ensures .1 .1 ∙ c .before .before .before .before .before .before .before .before .before .before .reached .ensures .1 .1 .1 .1
+same-length c = c .before .before .walk-roots .ensures .1 ∙ c .before .before .before .before .before .before .parents .ensures .1 .1 ∙ c .before .before .before .before .before .before .before .before .before .before .reached .ensures .1 .1 .1 .1 .1
 
 returns : tie.Need-returns
 returns c =
@@ -32,8 +33,8 @@ returns c =
     let r = c .before .before .before .before .before .before .before .before .before .before .reached .ensures in
     let q = c .before .before .before .before .before .before .parents .ensures in
     let d = c .before .before .walk-roots .ensures in
-    let e = tables-end (p .0) (p .1 .0) (omega (arith, p .1 .1, r .1 .1 .1 .1, q .1 .1)) (d .0) (q .0) (q .1 .0) (r .1 .1 .1 .0) in
-    (e .count, (e .points, (e .most, (e .parents, (e .lines, d .1 ∙ q .1 .1 ∙ r .1 .1 .1 .1)))))
+    let e = tables-end (p .0) (p .1 .0) (omega (arith, p .1 .1, r .1 .1 .1 .1 .1, q .1 .1)) (d .0) (q .0) (q .1 .0) (r .1 .1 .1 .0) (r .1 .1 .1 .1 .0) in
+    (e .count, (e .points, (e .most, (e .parents, (e .lines, (e .words, d .1 ∙ q .1 .1 ∙ r .1 .1 .1 .1 .1))))))
 
 pub walk-spec : {M : Type 1} → statement M
 walk-spec = tie.close (tie.spec reached-requires parents-requires walk-roots-requires same-length returns)

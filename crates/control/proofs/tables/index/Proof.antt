@@ -3,7 +3,7 @@ use mathlib.Core.Path.{_∙_}
 use native.Mathlib.Omega.{arith}
 use lib.Dec.{lit≤}
 use borrow.Author.Needs.{needs}
-use Rattle.control.specs.Tables.{childrenAt, marksAt, blank-marked, marked-beside}
+use Rattle.control.specs.Tables.{childrenAt, marksAt, above-more, above-beside, blank-marked, marked-beside}
 use Rattle.control.proofs.tables.index.Statement.{statement}
 use Rattle.control.proofs.tables.index.Tie as tie
 
@@ -11,7 +11,7 @@ put-lines-requires : tie.Need-put-lines-requires
 put-lines-requires c κs =
     let p = c .before .before .before .before .before .before .before .pre in
     let e = c .before .before .before .clear .ensures in
-    (p .0, (p .1 .0, (omega (arith, e .1, p .1 .1), e .0)))
+    (p .0, (p .1 .0, (omega (arith, e .1 .1, p .1 .1), e .0)))
 
 returns : tie.Need-returns
 returns c =
@@ -22,7 +22,7 @@ returns c =
         l .1 .0,
         (
           (marked-beside (blank-marked (e .0) childrenAt (lit≤ tt) (lit≤ tt)) (l .1 .1 .0) (lit≤ tt), marked-beside (blank-marked (e .0) marksAt (lit≤ tt) (lit≤ tt)) (l .1 .1 .0) (lit≤ tt)),
-          l .1 .1 .1 ∙ e .1,
+          (above-more (e .1 .0) (above-beside (l .1 .1 .0) (lit≤ tt)), l .1 .1 .1 ∙ e .1 .1),
         ),
       ),
     )

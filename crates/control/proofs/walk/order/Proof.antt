@@ -11,7 +11,7 @@ returns : tie.Need-returns
 returns c =
     let p = c .before .before .before .before .before .before .pre in
     let v = c .before .before .visit .ensures in
-    (order-is (v .0) (p .1 .1 .1 .1 .0), (order-few (v .0), (v .0 .low, (order-lines (v .0) (p .1 .1 .1 .0), v .1))))
+    (order-is (v .0) (p .1 .1 .1 .1 .0), (order-few (v .0), (v .0 .low, (order-lines (v .0) (p .1 .1 .1 .0), (v .0 .above, v .1)))))
 
 pub order-spec : {M : Type 1} → statement M
 order-spec = tie.close (tie.spec visit-requires (λ c. search needs) returns)
