@@ -67,7 +67,7 @@ length-points [] = refl
 length-points (x ∷ T) = omega (arith, length-points T)
 
 module _ (F : Func) (ok : Walkable F) where
-  visited-low : {r : ℕ} {p : Place} → Visited F r p → r < length (F .regions)
+  pub visited-low : {r : ℕ} {p : Place} → Visited F r p → r < length (F .regions)
   visited-low at-body = ok .shaped .targets .some-region
   visited-low (in-case {n} {c} v s e i) = ok .shaped .forest .child-range n c (subst (λ (l : List ℕ). In c l) (sym (ap childrenOf e)) i)
   visited-low (in-loop {n} {b} v s e) = ok .shaped .forest .child-range n b (subst (λ (l : List ℕ). In b l) (sym (ap childrenOf e)) here)

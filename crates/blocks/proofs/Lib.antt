@@ -1,0 +1,3 @@
+-- What the proofs of use counts cite.
+pub mod Counting
+pub mod Gluing

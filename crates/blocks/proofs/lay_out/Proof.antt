@@ -1,0 +1,24 @@
+-- `blocks::lay_out` meets its contract: what the walk promises is what the passes ask. Assumes nothing.
+use mathlib.Core.Path.{_∙_}
+use Rattle.term.specs.Visited.{visited-walked}
+use borrow.Author.Needs.{needs}
+use Rattle.blocks.proofs.lay_out.Statement.{statement}
+use Rattle.blocks.proofs.lay_out.Tie as tie
+
+count-uses-requires : tie.Need-count-uses-requires
+count-uses-requires c κs =
+    let s = c .before .before .before .before .before .before .before in
+    let e = c .before .before .before .walk .ensures in
+    visited-walked (s .args .work .now) _ (s .pre .0) (s .pre .1 .0) (s .pre .1 .1) (e .1 .1 .1 .1 .1 .1) (e .0) (e .1 .0) (e .1 .1 .0) (e .1 .1 .1 .0)
+    (e .1 .1 .1 .1 .0)
+
+returns : tie.Need-returns
+returns c =
+    let g = c .before .before .glue .ensures in
+    let u = c .before .before .before .before .before .before .count-uses .ensures in
+    let e = c .before .before .before .before .before .before .before .before .before .before .walk .ensures in
+    (g .1 .1 .0, (g .1 .0, (g .0, g .1 .1 .1 .1 ∙ u .1 .1 .1 ∙ e .1 .1 .1 .1 .1 .1)))
+
+pub lay-out-spec : {M : Type 1} → statement M
+lay-out-spec =
+    tie.close (tie.spec (λ c κs. search needs) count-uses-requires (λ c κs. search needs) (λ c. search needs) returns)

@@ -1,0 +1,4 @@
+-- Use counts, and the visited points as runs of kept blocks.
+pub mod Aside
+pub mod Uses
+pub mod Glue
