@@ -32,7 +32,7 @@ use Rattle.term.specs.declared.Sole.the-variants.{To, Nowhere}
 use Rattle.term.specs.Way.{asSole}
 use Rattle.blocks.specs.Aside.{Aside, aside-more, aside-none, aside-set}
 use Rattle.blocks.specs.Uses.{Counted, usesAt}
-use Rattle.blocks.specs.Glue.{Glued, absorbed, absorbs, aloneWord, glue-is, glueWord, gluesAt, gluesEnd, joinable, stands, status-alone, status-joined, statusWord, statusesAt}
+use Rattle.blocks.specs.Glue.{Beyond, Glued, absorbed, absorbs, aloneWord, glue-is, glueWord, gluesAt, gluesEnd, joinable, stands, status-alone, status-joined, statusWord, statusesAt}
 
 -- ---- one position
 
@@ -157,6 +157,7 @@ pub record Gluing (func w : List ℕ) (m i : ℕ) (joined : Bool) (work : List �
   pub glued : Glued (funcOf func) i work
   pub same : length work ≡ length w
   pub aside : Aside statusesAt gluesEnd w work
+  pub beyond : Beyond i w work
 
 pub gluing-first : {func w : List ℕ} {m : ℕ} → Visited func w m → Counted (funcOf func) w → Gluing func w m 0 false w
 gluing-first {w = w} k t = record {
@@ -167,6 +168,7 @@ gluing-first {w = w} k t = record {
   glued = record { status = λ i h. absurd (omega arith); glue = λ i h. absurd (omega arith) };
   same = refl;
   aside = aside-none statusesAt gluesEnd w;
+  beyond = record { status = λ i h l. refl; glue = λ i h l. refl };
 }
 
 module _ {func w : List ℕ} {m i : ℕ} {joined : Bool} {work : List ℕ} (f : Gluing func w m i joined work) (h : i < m) (s : ℕ) (b : Bool) where
@@ -212,6 +214,18 @@ module _ {func w : List ℕ} {m i : ℕ} {joined : Bool} {work : List ℕ} (f : 
       ∙ getD-set-other work (statusesAt + i) (gluesAt + j) s 0 (λ y. omega (arith, low))
       ∙ f .glued .glue j (omega arith))
 
+  later : Beyond (i + 1) w two
+  later = record {
+    status = λ j h l.
+        getD-set-other one (gluesAt + i) (statusesAt + j) (glueWord b) 0 (λ y. omega arith)
+        ∙ getD-set-other work (statusesAt + i) (statusesAt + j) s 0 (λ y. omega arith)
+        ∙ f .beyond .status j (omega arith) l;
+    glue = λ j h l.
+        getD-set-other one (gluesAt + i) (gluesAt + j) (glueWord b) 0 (λ y. omega arith)
+        ∙ getD-set-other work (statusesAt + i) (gluesAt + j) s 0 (λ y. omega (arith, low))
+        ∙ f .beyond .glue j (omega arith) l;
+  }
+
   pub gluing-next : s ≡ statusWord (stands (funcOf func) i) (pointAt (funcOf func) i) → b ≡ absorbs (funcOf func) i → {out : List ℕ} → out ≡ two
       → length out ≡ length work
       → Gluing func w m (i + 1) b out
@@ -225,9 +239,15 @@ module _ {func w : List ℕ} {m i : ℕ} {joined : Bool} {work : List ℕ} (f : 
         glued = subst (Glued (funcOf func) (i + 1)) (sym eo) (record { status = status-words es; glue = glue-words eb });
         same = l ∙ f .same;
         aside = aside-more (f .aside) s2;
+        beyond = subst (Beyond (i + 1) w) (sym eo) later;
       }
 
 pub gluing-done : {func w : List ℕ} {m i : ℕ} {joined : Bool} {work : List ℕ} → Gluing func w m i joined work → m ≤ i → Glued (funcOf func) m work
 gluing-done {func} {m = m} {i} {work = work} f h =
     let e : i ≡ m = omega (arith, f .below) in
     subst (λ (n : ℕ). Glued (funcOf func) n work) e (f .glued)
+
+pub gluing-beyond : {func w : List ℕ} {m i : ℕ} {joined : Bool} {work : List ℕ} → Gluing func w m i joined work → m ≤ i → Beyond m w work
+gluing-beyond {w = w} {m} {i} {work = work} f h =
+    let e : i ≡ m = omega (arith, f .below) in
+    subst (λ (n : ℕ). Beyond n w work) e (f .beyond)

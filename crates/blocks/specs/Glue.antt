@@ -8,7 +8,7 @@ use mathlib.Core.Bool.{Bool, true, false, _&&_}
 use mathlib.Core.Logic.{_⊎_, inl, inr}
 use mathlib.Core.List.{List, [], _∷_}
 use mathlib.Core.Option.{some}
-use Prim.Native.Nat.{ℕ, zero, suc, _+_, _<_}
+use Prim.Native.Nat.{ℕ, zero, suc, _+_, _≤_, _<_}
 use native.Mathlib.Decide.{ℕ-discrete}
 use native.Mathlib.Omega.{arith}
 use lib.Dec.{eqb}
@@ -67,6 +67,11 @@ module _ (F : Func) where
   pub record Glued (n : ℕ) (u : List ℕ) : Type 0 where
     pub status : (i : ℕ) → i < n → getD u (statusesAt + i) 0 ≡ statusWord (stands i) (pointAt F i)
     pub glue : (i : ℕ) → i < n → getD u (gluesAt + i) 0 ≡ glueWord (absorbs i)
+
+-- the words of the positions from n on are those of w
+pub record Beyond (n : ℕ) (w u : List ℕ) : Type 0 where
+  pub status : (i : ℕ) → n ≤ i → i < 512 → getD u (statusesAt + i) 0 ≡ getD w (statusesAt + i) 0
+  pub glue : (i : ℕ) → n ≤ i → i < 512 → getD u (gluesAt + i) 0 ≡ getD w (gluesAt + i) 0
 
 -- what a point passes on is its own word
 carried : (s : Status) (p q : CfgPoint) (n : ℕ) (b : Bool) → b ≡ true → statusWord (status (carry s p b) n) q ≡ statusWord s p

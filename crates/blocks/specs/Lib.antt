@@ -2,3 +2,4 @@
 pub mod Aside
 pub mod Uses
 pub mod Glue
+pub mod Words

@@ -14,7 +14,7 @@ ghost use Rattle.term.specs.At.{pointAt};
 ghost use Rattle.term.specs.Visited.{Visited};
 ghost use Rattle.blocks.specs.Aside.{Aside};
 ghost use Rattle.blocks.specs.Uses.{Counted};
-ghost use Rattle.blocks.specs.Glue.{Glued, absorbed, absorbs, aloneWord, glueWord, gluesAt, gluesEnd, joinable, stands, statusWord, statusesAt};
+ghost use Rattle.blocks.specs.Glue.{Beyond, Glued, absorbed, absorbs, aloneWord, glueWord, gluesAt, gluesEnd, joinable, stands, statusWord, statusesAt};
 
 pub const STATUSES: usize = 2560;
 
@@ -109,6 +109,7 @@ pub fn glue(func: &[u32], work: &mut [u32], m: usize)
     ensures { λ _. ⌜ Counted (funcOf (now (func .entry))) (now (work .exit)) ⌝ }
     ensures { λ _. ⌜ Visited (now (func .entry)) (now (work .exit)) m ⌝ }
     ensures { λ _. ⌜ Aside statusesAt gluesEnd (now (work .entry)) (now (work .exit)) ⌝ }
+    ensures { λ _. ⌜ Beyond m (now (work .entry)) (now (work .exit)) ⌝ }
     ensures { λ _. ⌜ length (now (work .exit)) ≡ length (now (work .entry)) ⌝ }
 {
     let mut joined = false;

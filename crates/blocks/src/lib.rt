@@ -4,30 +4,65 @@ pub mod glue;
 
 use crate::counts::count_uses;
 use crate::glue::glue;
+use control::tables::CHILDREN;
+use control::tables::LINES;
+use points::POINTS;
 use points::walk;
 ghost use mathlib.Core.Path.{_≡_};
-ghost use Prim.Native.Nat.{_≤_};
-ghost use lib.ListN.{length};
+ghost use Prim.Native.Nat.{_≤_, _<_};
+ghost use lib.ListN.{length, replicate};
 ghost use Rattle.lifting.specs.Limits.{scratchWords};
 ghost use Rattle.func.specs.Decode.{funcOf};
 ghost use Rattle.func.specs.Tables.{Tables};
 ghost use Rattle.points.specs.Walk.{Walkable};
+ghost use Rattle.checks.specs.Same.{Stands};
 ghost use Rattle.term.specs.Visited.{Visited};
 ghost use Rattle.blocks.specs.Uses.{Counted};
 ghost use Rattle.blocks.specs.Glue.{Glued};
+ghost use Rattle.blocks.specs.Words.{LayWords, Cleared, BlockWords};
 
 // The walk, the use counts and the words of the kept blocks stand: how many points are visited.
-pub fn lay_out(func: &[u32], work: &mut [u32]) -> usize
+fn lay_out(func: &[u32], work: &mut [u32]) -> usize
     requires { ⌜ Tables (now func) ⌝ }
     requires { ⌜ Walkable (funcOf (now func)) ⌝ }
     requires { ⌜ scratchWords ≤ length (now work) ⌝ }
     ensures { λ m. ⌜ Visited (now (func .entry)) (now (work .exit)) m ⌝ }
     ensures { λ _. ⌜ Counted (funcOf (now (func .entry))) (now (work .exit)) ⌝ }
     ensures { λ m. ⌜ Glued (funcOf (now (func .entry))) m (now (work .exit)) ⌝ }
+    ensures { λ _. ⌜ LayWords (funcOf (now (func .entry))) (now (work .entry)) (now (work .exit)) ⌝ }
     ensures { λ _. ⌜ length (now (work .exit)) ≡ length (now (work .entry)) ⌝ }
 {
     let m = walk(func, work);
     count_uses(func, work, m);
     glue(func, work, m);
+    m
+}
+
+// The words from `from` up to `to` are 0.
+fn clear(work: &mut [u32], from: usize, to: usize)
+    requires { ⌜ (from ≤ to) × (to ≤ length (now work)) ⌝ }
+    ensures { λ _. ⌜ Cleared from to (now (work .entry)) (now (work .exit)) ⌝ }
+    ensures { λ _. ⌜ length (now (work .exit)) ≡ length (now (work .entry)) ⌝ }
+{
+    let mut i = from;
+    while i < to {
+        work[i] = 0;
+        i += 1;
+    }
+}
+
+// The kept blocks of a function with a body stand in the work slice, which was clear: how many points are visited. What only the walks needed is
+// cleared again, but for the table of ctrl lines, which the ways out go by.
+pub fn blocks(func: &[u32], work: &mut [u32]) -> usize
+    requires { ⌜ Stands (funcOf (now func)) (now func) ⌝ }
+    requires { ⌜ 0 < length (funcOf (now func) .regions) ⌝ }
+    requires { ⌜ (scratchWords ≤ length (now work)) × (now work ≡ replicate (length (now work)) 0) ⌝ }
+    ensures { λ m. ⌜ Visited (now (func .entry)) (now (work .exit)) m ⌝ }
+    ensures { λ _. ⌜ BlockWords (funcOf (now (func .entry))) (now (work .exit)) ⌝ }
+    ensures { λ _. ⌜ length (now (work .exit)) ≡ length (now (work .entry)) ⌝ }
+{
+    let m = lay_out(func, work);
+    clear(work, 0, LINES);
+    clear(work, CHILDREN, POINTS);
     m
 }

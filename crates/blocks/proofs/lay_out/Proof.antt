@@ -1,6 +1,7 @@
 -- `blocks::lay_out` meets its contract: what the walk promises is what the passes ask. Assumes nothing.
 use mathlib.Core.Path.{_∙_}
 use Rattle.term.specs.Visited.{visited-walked}
+use Rattle.blocks.specs.Words.{lay-words}
 use borrow.Author.Needs.{needs}
 use Rattle.blocks.proofs.lay_out.Statement.{statement}
 use Rattle.blocks.proofs.lay_out.Tie as tie
@@ -17,7 +18,8 @@ returns c =
     let g = c .before .before .glue .ensures in
     let u = c .before .before .before .before .before .before .count-uses .ensures in
     let e = c .before .before .before .before .before .before .before .before .before .before .walk .ensures in
-    (g .1 .1 .0, (g .1 .0, (g .0, g .1 .1 .1 .1 ∙ u .1 .1 .1 ∙ e .1 .1 .1 .1 .1 .1)))
+    let k = g .1 .1 .0 in
+    (k, (g .1 .0, (g .0, (lay-words (e .1 .1 .1 .1 .1 .0) (u .1 .1 .0) (g .1 .1 .1 .0) (g .1 .1 .1 .1 .0) (g .1 .0) (g .0) (k .count) (k .few), g .1 .1 .1 .1 .1 ∙ u .1 .1 .1 ∙ e .1 .1 .1 .1 .1 .1))))
 
 pub lay-out-spec : {M : Type 1} → statement M
 lay-out-spec =

@@ -2,7 +2,7 @@
 use Prim.Native.Nat.{_-_}
 use native.Mathlib.Omega.{arith}
 use borrow.Author.Needs.{needs}
-use Rattle.blocks.proofs.Gluing.{Gluing, gluing-done, gluing-first, gluing-next}
+use Rattle.blocks.proofs.Gluing.{Gluing, gluing-beyond, gluing-done, gluing-first, gluing-next}
 use Rattle.blocks.proofs.glue.glue.Statement.{statement}
 use Rattle.blocks.proofs.glue.glue.Tie as tie
 
@@ -38,7 +38,7 @@ same-length : tie.Need-same-length Inv-loop μ-loop
 same-length c = c .before .loop .inv .same
 
 returns : tie.Need-returns Inv-loop μ-loop
-returns c = let f = c .before .loop .inv in (gluing-done f (c .loop-test .left), (f .counted, (f .visited, (f .aside, f .same))))
+returns c = let f = c .before .loop .inv in (gluing-done f (c .loop-test .left), (f .counted, (f .visited, (f .aside, (gluing-beyond f (c .loop-test .left), f .same)))))
 
 pub glue-spec : {M : Type 1} → statement M
 glue-spec =

@@ -1,0 +1,209 @@
+-- Every word of the work slice where the blocks are laid out. Assumes nothing.
+--     layWord, lay-words       after the walk, the use counts and the pass over positions, above the tables of the control-flow walk
+--     blockWord, block-words   all of them, where the slice was clear
+--     walkable-stands          what the walk asks of a text follows from what the reader promises
+use mathlib.Core.Path.{_≡_, refl, sym, ap, subst, _∙_}
+use mathlib.Core.Bool.{Bool, true, false, cond}
+use mathlib.Core.List.{List, [], _∷_}
+use Prim.Native.Nat.{ℕ, zero, suc, _+_, _-_, _≤_, _<_}
+use native.Mathlib.Decide.{ℕ-discrete}
+use native.Mathlib.Omega.{arith}
+use lib.Dec.{ltb}
+use lib.ListN.{getD, length, replicate, set}
+use lib.Seq.{getD-set-other, getD-set-same}
+use borrow.Author.Tests.{ltb-true, ltb-false}
+use Rattle.lifting.specs.Lists.{tabulate}
+use Rattle.lifting.specs.Ast.{Region, Func}
+use Rattle.lifting.specs.Parts.{hasBody}
+use Rattle.lifting.specs.Walk.{walkOf}
+use Rattle.lifting.specs.Absorb.{useCount}
+use Rattle.func.specs.Decode.{funcOf}
+use Rattle.control.specs.Tables.{linesAt, childrenAt, tablesEnd, firstLine, split}
+use Rattle.points.specs.Numbers.{pointOf, pointsAt}
+use Rattle.points.specs.Parents.{parentsAt, parentsEnd}
+use Rattle.points.specs.Walk.{Walkable, walkable-checked}
+use Rattle.points.specs.Words.{walkWord, WalkWords, word-after}
+use Rattle.checks.specs.Same.{Stands}
+use Rattle.term.specs.At.{pointAt}
+use Rattle.term.specs.Visited.{Visited}
+use Rattle.blocks.specs.Aside.{Aside, aside-none}
+use Rattle.blocks.specs.Uses.{usesAt, usesEnd, Counted}
+use Rattle.blocks.specs.Glue.{statusesAt, gluesAt, gluesEnd, statusWord, glueWord, stands, absorbs, Glued, Beyond}
+
+-- a position's word, or what was there behind the last position
+abbrev pub positioned : Func → ℕ → ℕ → ℕ → ℕ
+positioned F i v old = cond (ltb i (length (walkOf F))) v old
+
+-- word x, where the words were `old`
+unfoldable pub layWord : Func → (ℕ → ℕ) → ℕ → ℕ
+layWord F old x =
+    cond (ltb x usesAt) (walkWord F old x)
+    (cond (ltb x usesEnd) (useCount (walkOf F) (pointOf (x - usesAt)))
+    (cond (ltb x gluesAt) (positioned F (x - statusesAt) (statusWord (stands F (x - statusesAt)) (pointAt F (x - statusesAt))) (old x))
+    (cond (ltb x gluesEnd) (positioned F (x - gluesAt) (glueWord (absorbs F (x - gluesAt))) (old x)) (old x))))
+
+-- from the words w to the words u
+pub record LayWords (F : Func) (w u : List ℕ) : Type 0 where
+  pub word : (x : ℕ) → tablesEnd ≤ x → getD u x 0 ≡ layWord F (λ y. getD w y 0) x
+
+module _ {F : Func} {w u v z : List ℕ} {m : ℕ} (walked : WalkWords F w u) (counts : Aside usesAt usesEnd u v) (run : Aside statusesAt gluesEnd v z) (past : Beyond m v z)
+    (counted : Counted F z) (glued : Glued F m z) (size : m ≡ length (walkOf F)) (few : m ≤ 512) where
+  abbrev old : ℕ → ℕ
+  old y = getD w y 0
+
+  -- what was there before the walk is there before the last pass
+  kept : (x : ℕ) → usesEnd ≤ x → getD v x 0 ≡ old x
+  kept x h = counts .after x h ∙ walked .word x (omega arith) ∙ word-after F old x (omega arith) (omega arith)
+
+  by-position : (i x d : ℕ) (value : ℕ) → (i < m → getD z x 0 ≡ value) → (m ≤ i → getD z x 0 ≡ d) → getD z x 0 ≡ positioned F i value d
+  by-position i x d value there past-it = go (ltb i (length (walkOf F))) refl
+    where
+      go : (b : Bool) → ltb i (length (walkOf F)) ≡ b → getD z x 0 ≡ cond b value d
+      go true e = there (omega (arith, ltb-true i (length (walkOf F)) e))
+      go false e = past-it (omega (arith, ltb-false i (length (walkOf F)) e))
+
+  status-word : (x : ℕ) → statusesAt ≤ x → x < gluesAt
+      → getD z x 0 ≡ positioned F (x - statusesAt) (statusWord (stands F (x - statusesAt)) (pointAt F (x - statusesAt))) (old x)
+  status-word x a b =
+      let e : statusesAt + (x - statusesAt) ≡ x = omega arith in
+      by-position (x - statusesAt) x (old x) _ (λ h. sym (ap (λ (y : ℕ). getD z y 0) e) ∙ glued .status (x - statusesAt) h)
+      (λ h. sym (ap (λ (y : ℕ). getD z y 0) e) ∙ past .status (x - statusesAt) h (omega arith) ∙ ap (λ (y : ℕ). getD v y 0) e ∙ kept x (omega arith))
+
+  glue-word : (x : ℕ) → gluesAt ≤ x → x < gluesEnd → getD z x 0 ≡ positioned F (x - gluesAt) (glueWord (absorbs F (x - gluesAt))) (old x)
+  glue-word x a b =
+      let e : gluesAt + (x - gluesAt) ≡ x = omega arith in
+      by-position (x - gluesAt) x (old x) _ (λ h. sym (ap (λ (y : ℕ). getD z y 0) e) ∙ glued .glue (x - gluesAt) h)
+      (λ h. sym (ap (λ (y : ℕ). getD z y 0) e) ∙ past .glue (x - gluesAt) h (omega arith) ∙ ap (λ (y : ℕ). getD v y 0) e ∙ kept x (omega arith))
+
+  pub lay-words : LayWords F w z
+  unfolding layWord
+  lay-words = record { word = λ x h. low x h (ltb x usesAt) refl }
+    where
+      end : (x : ℕ) → gluesAt ≤ x → (b : Bool) → ltb x gluesEnd ≡ b → getD z x 0 ≡ cond b (positioned F (x - gluesAt) (glueWord (absorbs F (x - gluesAt))) (old x)) (old x)
+      end x h true e = glue-word x h (ltb-true x gluesEnd e)
+      end x h false e = let k = ltb-false x gluesEnd e in run .after x k ∙ kept x (omega arith)
+
+      high : (x : ℕ) → statusesAt ≤ x → (b : Bool) → ltb x gluesAt ≡ b
+          → getD z x 0 ≡ cond b (positioned F (x - statusesAt) (statusWord (stands F (x - statusesAt)) (pointAt F (x - statusesAt))) (old x))
+          (cond (ltb x gluesEnd) (positioned F (x - gluesAt) (glueWord (absorbs F (x - gluesAt))) (old x)) (old x))
+      high x h true e = status-word x h (ltb-true x gluesAt e)
+      high x h false e = end x (ltb-false x gluesAt e) (ltb x gluesEnd) refl
+
+      mid : (x : ℕ) → usesAt ≤ x → (b : Bool) → ltb x usesEnd ≡ b
+          → getD z x 0 ≡ cond b (useCount (walkOf F) (pointOf (x - usesAt)))
+          (cond (ltb x gluesAt) (positioned F (x - statusesAt) (statusWord (stands F (x - statusesAt)) (pointAt F (x - statusesAt))) (old x))
+          (cond (ltb x gluesEnd) (positioned F (x - gluesAt) (glueWord (absorbs F (x - gluesAt))) (old x)) (old x)))
+      mid x h true e =
+          let l = ltb-true x usesEnd e in
+          let y : usesAt + (x - usesAt) ≡ x = omega arith in
+          sym (ap (λ (y : ℕ). getD z y 0) y) ∙ counted .word (x - usesAt) (omega arith)
+      mid x h false e = high x (ltb-false x usesEnd e) (ltb x gluesAt) refl
+
+      low : (x : ℕ) → tablesEnd ≤ x → (b : Bool) → ltb x usesAt ≡ b
+          → getD z x 0 ≡ cond b (walkWord F old x)
+          (cond (ltb x usesEnd) (useCount (walkOf F) (pointOf (x - usesAt)))
+          (cond (ltb x gluesAt) (positioned F (x - statusesAt) (statusWord (stands F (x - statusesAt)) (pointAt F (x - statusesAt))) (old x))
+          (cond (ltb x gluesEnd) (positioned F (x - gluesAt) (glueWord (absorbs F (x - gluesAt))) (old x)) (old x))))
+      low x h true e = let l = ltb-true x usesAt e in run .before x (omega arith) ∙ counts .before x l ∙ walked .word x h
+      low x h false e = mid x (ltb-false x usesAt e) (ltb x usesEnd) refl
+
+-- the words from a up to b are 0, and the others stay
+pub record Cleared (a b : ℕ) (w u : List ℕ) : Type 0 where
+  pub blank : (x : ℕ) → a ≤ x → x < b → getD u x 0 ≡ 0
+  pub aside : Aside a b w u
+
+pub cleared-none : (a : ℕ) (w : List ℕ) → Cleared a a w w
+cleared-none a w = record { blank = λ x h l. absurd (omega arith); aside = aside-none a a w }
+
+pub cleared-more : {a i : ℕ} {w u : List ℕ} → Cleared a i w u → a ≤ i → i < length u → Cleared a (i + 1) w (set u i 0)
+cleared-more {a} {i} {w} {u} k h l = record {
+  blank = λ x g z.
+      split (ℕ-discrete x i) (λ e. ap (λ (y : ℕ). getD (set u i 0) y 0) e ∙ getD-set-same u i 0 0 l)
+      (λ e. getD-set-other u i x 0 0 e ∙ k .blank x g (omega arith));
+  aside = record {
+    before = λ x g. getD-set-other u i x 0 0 (λ e. omega arith) ∙ k .aside .before x g;
+    after = λ x g. getD-set-other u i x 0 0 (λ e. omega arith) ∙ k .aside .after x (omega arith);
+  };
+}
+
+pub cleared-to : {a i b : ℕ} {w u : List ℕ} → Cleared a i w u → i ≡ b → Cleared a b w u
+cleared-to {a} {w = w} {u} k e = subst (λ (n : ℕ). Cleared a n w u) e k
+
+-- word x of a slice that was clear: the table of ctrl lines, the visited points, the parents, the use counts, the positions
+unfoldable pub blockWord : Func → ℕ → ℕ
+blockWord F x =
+    cond (ltb x linesAt) 0 (cond (ltb x childrenAt) (firstLine (x - linesAt) 0 (F .ctrls)) (cond (ltb x pointsAt) 0 (layWord F (λ y. 0) x)))
+
+pub record BlockWords (F : Func) (u : List ℕ) : Type 0 where
+  pub word : (x : ℕ) → getD u x 0 ≡ blockWord F x
+
+-- zeros, word by word
+pub zero-word : {w : List ℕ} → w ≡ replicate (length w) 0 → (x : ℕ) → getD w x 0 ≡ 0
+zero-word {w} e x = ap (λ (l : List ℕ). getD l x 0) e ∙ go (length w) x
+  where
+    go : (n x : ℕ) → _≡_ {A = ℕ} (getD (replicate n 0) x 0) 0
+    go zero x = refl
+    go (suc n) zero = refl
+    go (suc n) (suc x) = go n x
+
+-- what a word is made of, where the words before are the same
+lay-same : (F : Func) (f g : ℕ → ℕ) → ((y : ℕ) → f y ≡ g y) → (x : ℕ) → layWord F f x ≡ layWord F g x
+unfolding layWord walkWord
+lay-same F f g e x = rw (e x)
+
+tabulate-between : {A : Type 0} (f g : ℕ → A) (a n : ℕ) → ((x : ℕ) → a ≤ x → f x ≡ g x) → tabulate f a n ≡ tabulate g a n
+tabulate-between f g a zero h = refl
+tabulate-between {A} f g a (suc n) h =
+    ap (λ (x : A). x ∷ tabulate f (suc a) n) (h a (omega arith)) ∙ ap (λ (l : List A). g a ∷ l) (tabulate-between f g (suc a) n (λ x k. h x (omega arith)))
+
+module _ {func w u v z : List ℕ} {m : ℕ} (clear : w ≡ replicate (length w) 0) (k : Visited func u m) (laid : LayWords (funcOf func) w u)
+    (low : Cleared 0 linesAt u v) (mid : Cleared childrenAt pointsAt v z) where
+  same : (x : ℕ) → linesAt ≤ x → x < childrenAt → getD z x 0 ≡ getD u x 0
+  same x a b = mid .aside .before x b ∙ low .aside .after x a
+
+  same-high : (x : ℕ) → pointsAt ≤ x → getD z x 0 ≡ getD u x 0
+  same-high x h = mid .aside .after x h ∙ low .aside .after x (omega arith)
+
+  pub visited-still : length z ≡ length u → Visited func z m
+  visited-still l = record {
+    tables = k .tables;
+    walkable = k .walkable;
+    size = omega (arith, k .size);
+    few = k .few;
+    count = k .count;
+    order = tabulate-between (λ i. pointOf (getD z i 0)) (λ i. pointOf (getD u i 0)) pointsAt m (λ x a. ap pointOf (same-high x a)) ∙ k .order;
+    parents = record { word = λ r h. same-high (parentsAt + r) (omega arith) ∙ k .parents .word r h };
+    lines = record { line = λ r h. same (linesAt + r) (omega arith) (omega arith) ∙ k .lines .line r h };
+  }
+
+  pub block-words : BlockWords (funcOf func) z
+  unfolding blockWord
+  block-words = record { word = λ x. first x (ltb x linesAt) refl }
+    where
+      last : (x : ℕ) → childrenAt ≤ x → (b : Bool) → ltb x pointsAt ≡ b → getD z x 0 ≡ cond b 0 (layWord (funcOf func) (λ y. 0) x)
+      last x h true e = mid .blank x h (ltb-true x pointsAt e)
+      last x h false e =
+          let a = ltb-false x pointsAt e in
+          same-high x a ∙ laid .word x (omega arith) ∙ lay-same (funcOf func) (λ y. getD w y 0) (λ y. 0) (zero-word clear) x
+
+      second : (x : ℕ) → linesAt ≤ x → (b : Bool) → ltb x childrenAt ≡ b
+          → getD z x 0 ≡ cond b (firstLine (x - linesAt) 0 (funcOf func .ctrls)) (cond (ltb x pointsAt) 0 (layWord (funcOf func) (λ y. 0) x))
+      second x h true e =
+          let b = ltb-true x childrenAt e in
+          let y : linesAt + (x - linesAt) ≡ x = omega arith in
+          same x h b ∙ sym (ap (λ (y : ℕ). getD u y 0) y) ∙ k .lines .line (x - linesAt) (omega arith)
+      second x h false e = last x (ltb-false x childrenAt e) (ltb x pointsAt) refl
+
+      first : (x : ℕ) (b : Bool) → ltb x linesAt ≡ b
+          → getD z x 0 ≡ cond b 0 (cond (ltb x childrenAt) (firstLine (x - linesAt) 0 (funcOf func .ctrls)) (cond (ltb x pointsAt) 0 (layWord (funcOf func) (λ y. 0) x)))
+      first x true e = mid .aside .before x (omega (arith, ltb-true x linesAt e)) ∙ low .blank x (omega arith) (ltb-true x linesAt e)
+      first x false e = second x (ltb-false x linesAt e) (ltb x childrenAt) refl
+
+-- a text that passed refusals 1 to 7 and has a body can be walked
+pub walkable-stands : {w : List ℕ} → Stands (funcOf w) w → 0 < length (funcOf w .regions) → Walkable (funcOf w)
+walkable-stands {w} s h =
+    walkable-checked (s .tables) (has-body (funcOf w .regions) h) (s .passes .references) (s .passes .tree) (s .passes .counts) (s .passes .control)
+  where
+    has-body : (rs : List Region) → 0 < length rs → hasBody rs ≡ true
+    has-body [] h = absurd (omega arith)
+    has-body (r ∷ rs) h = refl
