@@ -2,7 +2,7 @@
 --     short, long, malformed     refusals 8, 1 and 2
 --     judged-safe, judged        refusals 3 to 7, of a text that is of the forms
 --     answered, too-short        so the answer and both slices are as promised
---     accepted                   what a caller has where the function stands in its slice
+--     accepted, cleared          what a caller has where the function stands in its slice
 use mathlib.Core.Path.{_≡_, refl, sym, ap, subst, _∙_}
 use mathlib.Core.Bool.{Bool, true, false, _&&_}
 use mathlib.Core.List.{List}
@@ -156,8 +156,8 @@ module _ (text f w : List ℕ) where
       (k, (ap (λ (p : answer.Parsed). funcAfter p f) k, ap (λ (p : answer.Parsed). workAfter p w) k))
 
 -- a text that is parsed is of the forms and passes, and the slices were long enough
-parsed-checked : (text : List ℕ) (n m : ℕ) (F : Func) → parse text n m ≡ parsed F → (scratchWords ≤ n) × (checked F ≡ parsed F)
-parsed-checked text n m F e = by-scratch (leb scratchWords n) (leb scratchWords m) refl (sym (parse-is text n m) ∙ e)
+parsed-checked : (text : List ℕ) (n m : ℕ) (F : Func) → parse text n m ≡ parsed F → (scratchWords ≤ n) × (scratchWords ≤ m) × (checked F ≡ parsed F)
+parsed-checked text n m F e = by-scratch (leb scratchWords n) (leb scratchWords m) refl refl (sym (parse-is text n m) ∙ e)
   where
     by-read : (o : Option Func) → formed o ≡ parsed F → checked F ≡ parsed F
     by-read none q = absurd (unfold formed in let z : _≡_ {A = ℕ} 0 1 = cc in omega arith)
@@ -169,13 +169,23 @@ parsed-checked text n m F e = by-scratch (leb scratchWords n) (leb scratchWords 
     by-length false q = absurd (let z : _≡_ {A = ℕ} 0 1 = cc in omega arith)
     by-length true q = by-read (read text) q
 
-    by-scratch : (a b : Bool) → leb scratchWords n ≡ a → byScratch text (a && b) ≡ parsed F → (scratchWords ≤ n) × (checked F ≡ parsed F)
-    by-scratch true true h q = (leb-true scratchWords n h, by-length (leb (length text) maxBytes) q)
-    by-scratch true false h q = absurd (let z : _≡_ {A = ℕ} 0 1 = cc in omega arith)
-    by-scratch false b h q = absurd (let z : _≡_ {A = ℕ} 0 1 = cc in omega arith)
+    by-scratch : (a b : Bool) → leb scratchWords n ≡ a → leb scratchWords m ≡ b → byScratch text (a && b) ≡ parsed F
+        → (scratchWords ≤ n) × (scratchWords ≤ m) × (checked F ≡ parsed F)
+    by-scratch true true h k q = (leb-true scratchWords n h, leb-true scratchWords m k, by-length (leb (length text) maxBytes) q)
+    by-scratch true false h k q = absurd (let z : _≡_ {A = ℕ} 0 1 = cc in omega arith)
+    by-scratch false b h k q = absurd (let z : _≡_ {A = ℕ} 0 1 = cc in omega arith)
 
 -- what the promise gives where the answer is that the function stands in its slice
 pub accepted : (text f v : List ℕ) (m : ℕ) → answerOf Function v ≡ parse text (length f) m → v ≡ funcAfter (parse text (length f) m) f → Stands (funcOf v) v
 accepted text f v m e q =
     let k = parsed-checked text (length f) m (funcOf v) (sym e) in
-    subst (λ (w : List ℕ). Stands (funcOf v) w) (sym (q ∙ ap (λ (p : answer.Parsed). funcAfter p f) (sym e))) (back (funcOf v) (clear-zeros (length f) (k .0)) (k .1))
+    subst (λ (w : List ℕ). Stands (funcOf v) w) (sym (q ∙ ap (λ (p : answer.Parsed). funcAfter p f) (sym e))) (back (funcOf v) (clear-zeros (length f) (k .0)) (k .2))
+
+-- and then the work slice is clear, and long enough
+pub cleared : (text f v w u : List ℕ) → answerOf Function v ≡ parse text (length f) (length w) → u ≡ workAfter (parse text (length f) (length w)) w
+    → (scratchWords ≤ length u) × (u ≡ replicate (length u) 0)
+cleared text f v w u e q =
+    let k = parsed-checked text (length f) (length w) (funcOf v) (sym e) in
+    let z : u ≡ replicate (length w) 0 = q ∙ ap (λ (p : answer.Parsed). workAfter p w) (sym e) in
+    let l : length u ≡ length w = ap length z ∙ length-replicate {A = ℕ} (length w) 0 in
+    (omega (arith, k .1), z ∙ ap (λ (n : ℕ). replicate n 0) (sym l))

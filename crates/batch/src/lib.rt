@@ -1,0 +1,115 @@
+// Reads a batch on standard input, texts that each end with a line `%%`, and prints what is asked of each. What follows the last such line is no text.
+ghost use mathlib.Core.Path.{_≡_};
+ghost use Prim.Native.Nat.{_≤_};
+ghost use lib.ListN.{length};
+
+// The reader's answer, or the kept blocks.
+pub enum What {
+    Answer,
+    Blocks,
+}
+
+// How many bytes of a text have been kept, how much of its mark they end with, and whether there may be more.
+struct State {
+    len: usize,
+    matched: u32,
+    more: bool,
+}
+
+// Prints what is asked of a text.
+fn told(what: What, text: &[u8], func: &mut [u32], work: &mut [u32]) {
+    match what {
+        What::Answer => answers::tell(text, func, work),
+        What::Blocks => shown::tell(text, func, work),
+    }
+}
+
+// Answers a text that is whole, and gives the count of bytes that stay.
+fn answered(
+    what: What,
+    matched: u32,
+    text: &[u8],
+    len: usize,
+    func: &mut [u32],
+    work: &mut [u32],
+) -> usize
+    requires { ⌜ len ≤ length (now text) ⌝ }
+    ensures { λ r. ⌜ r ≤ len ⌝ }
+{
+    if matched == 4 {
+        told(what, answers::unmarked(text, len), func, work);
+        return 0;
+    }
+    len
+}
+
+// Takes what was read apart: the texts that end there are answered.
+fn taken(
+    what: What,
+    batch: &[u8],
+    text: &mut [u8],
+    state: State,
+    func: &mut [u32],
+    work: &mut [u32],
+) -> State
+    requires { ⌜ state .len ≤ length (now text) ⌝ }
+    ensures { λ r. ⌜ (r .len ≤ length (now (text .exit))) × (length (now (text .exit)) ≡ length (now (text .entry))) ⌝ }
+{
+    let mut at: usize = 0;
+    let mut len = state.len;
+    let mut matched = state.matched;
+    while at < batch.len() {
+        let place = answers::cut(batch, at, matched);
+        let end = place.end;
+        matched = place.matched;
+        len = answers::keep(text, len, &batch[at..end]);
+        at = end;
+        len = answered(what, matched, text, len, func, work);
+    }
+    State {
+        len: len,
+        matched: matched,
+        more: true,
+    }
+}
+
+// Reads once.
+fn some_read(what: What, text: &mut [u8], state: State, func: &mut [u32], work: &mut [u32]) -> State
+    requires { ⌜ state .len ≤ length (now text) ⌝ }
+    ensures { λ r. ⌜ (r .len ≤ length (now (text .exit))) × (length (now (text .exit)) ≡ length (now (text .entry))) ⌝ }
+{
+    let mut batch = io::large_buffer();
+    let got = libc::read(0, &mut batch);
+    if got <= 0 {
+        return State {
+            len: state.len,
+            matched: state.matched,
+            more: false,
+        };
+    }
+    let n = io::count(got, &batch);
+    taken(what, &batch[..n], text, state, func, work)
+}
+
+// A proved loop has to end, so it counts its turns down, from a number that no run uses up.
+fn all_read(what: What, text: &mut [u8], func: &mut [u32], work: &mut [u32]) {
+    let mut turns = u64::MAX;
+    let mut state = State {
+        len: 0,
+        matched: 1,
+        more: true,
+    };
+    while turns > 0 && state.more {
+        state = some_read(what, text, state, func, work);
+        turns -= 1;
+    }
+}
+
+// All texts of the batch.
+pub fn run(what: What) {
+    // A byte more than a text may have, and its mark: what follows changes nothing.
+    let mut text = [0u8; 32772];
+    let mut func = [0u32; 16384];
+    let mut work = [0u32; 16384];
+    all_read(what, &mut text, &mut func, &mut work);
+}
