@@ -19,12 +19,12 @@ use Rattle.flat.specs.Totals.{firstPoint, usesOf}
 use Rattle.points.specs.Numbers.{Small, number-low, pointNumber}
 use Rattle.points.specs.Walk.{Walkable}
 use Rattle.term.specs.At.{blockAt}
-use Rattle.term.specs.Visited.{Visited, label-small, visited-kept}
+use Rattle.term.specs.Visited.{Visited, label-small, visited-below}
 use Rattle.blocks.specs.Aside.{Aside, aside-more, aside-none, aside-set}
 use Rattle.blocks.specs.Uses.{Tallied, Tally, tally-low, tally-more, uses-all, uses-next, uses-none, usesAt, usesEnd, usesTo}
 
 pub visited-aside : {w u v : List ℕ} {m : ℕ} → Visited w u m → Aside usesAt usesEnd u v → length v ≡ length u → Visited w v m
-visited-aside k s l = visited-kept k (λ x h. s .before x (omega arith)) l
+visited-aside k s l = visited-below k (λ x h. s .before x (omega arith)) l
 
 -- ---- the words are cleared
 
@@ -124,7 +124,7 @@ module _ {func w : List ℕ} {m i count j : ℕ} {work : List ℕ} (f : Labellin
         (tally-more (f .tally) (omega (arith, f .visited .size)) p small) in
         record {
           visited =
-              visited-kept (f .visited) (λ x h. subst (λ (z : List ℕ). getD z x 0 ≡ getD work x 0) (sym eo)
+              visited-below (f .visited) (λ x h. subst (λ (z : List ℕ). getD z x 0 ≡ getD work x 0) (sym eo)
               (getD-set-other work (usesAt + q) x (getD work (usesAt + q) 0 + 1) 0 (λ y. omega arith))) l;
           inside = f .inside;
           all = f .all;

@@ -26,7 +26,7 @@ use Rattle.flat.specs.Flat.{byCount, glues, gluesTo}
 use Rattle.flat.specs.FlatLaws.{glue-last, glue-next}
 use Rattle.points.specs.Numbers.{Small, number-low, pointNumber, pointOf, pointsAt}
 use Rattle.term.specs.At.{blockAt, pointAt}
-use Rattle.term.specs.Visited.{Visited, label-small, point-small, point-word, visited-kept, word-is}
+use Rattle.term.specs.Visited.{Visited, label-small, point-small, point-word, visited-below, word-is}
 use Rattle.term.specs.declared.Sole.{Sole}
 use Rattle.term.specs.declared.Sole.the-variants.{To, Nowhere}
 use Rattle.term.specs.Way.{asSole}
@@ -232,7 +232,7 @@ module _ {func w : List ℕ} {m i : ℕ} {joined : Bool} {work : List ℕ} (f : 
   gluing-next es eb {out} eo l =
       let s2 : Aside statusesAt gluesEnd work out = subst (Aside statusesAt gluesEnd work) (sym eo) between in
       record {
-        visited = visited-kept (f .visited) (λ x z. s2 .before x (omega arith)) l;
+        visited = visited-below (f .visited) (λ x z. s2 .before x (omega arith)) l;
         counted = record { word = λ q z. s2 .before (usesAt + q) (omega arith) ∙ f .counted .word q z };
         below = omega arith;
         before = eb ∙ sym (ap (absorbed (funcOf func)) (add-one i));

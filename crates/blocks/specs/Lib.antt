@@ -3,3 +3,4 @@ pub mod Aside
 pub mod Uses
 pub mod Glue
 pub mod Words
+pub mod Laid

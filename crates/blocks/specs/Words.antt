@@ -12,7 +12,6 @@ use lib.Dec.{ltb}
 use lib.ListN.{getD, length, replicate, set}
 use lib.Seq.{getD-set-other, getD-set-same}
 use borrow.Author.Tests.{ltb-true, ltb-false}
-use Rattle.lifting.specs.Lists.{tabulate}
 use Rattle.lifting.specs.Ast.{Region, Func}
 use Rattle.lifting.specs.Parts.{hasBody}
 use Rattle.lifting.specs.Walk.{walkOf}
@@ -25,7 +24,7 @@ use Rattle.points.specs.Walk.{Walkable, walkable-checked}
 use Rattle.points.specs.Words.{walkWord, WalkWords, word-after}
 use Rattle.checks.specs.Same.{Stands}
 use Rattle.term.specs.At.{pointAt}
-use Rattle.term.specs.Visited.{Visited}
+use Rattle.term.specs.Visited.{Visited, visited-kept}
 use Rattle.blocks.specs.Aside.{Aside, aside-none}
 use Rattle.blocks.specs.Uses.{usesAt, usesEnd, Counted}
 use Rattle.blocks.specs.Glue.{statusesAt, gluesAt, gluesEnd, statusWord, glueWord, stands, absorbs, Glued, Beyond}
@@ -151,11 +150,6 @@ lay-same : (F : Func) (f g : ℕ → ℕ) → ((y : ℕ) → f y ≡ g y) → (x
 unfolding layWord walkWord
 lay-same F f g e x = rw (e x)
 
-tabulate-between : {A : Type 0} (f g : ℕ → A) (a n : ℕ) → ((x : ℕ) → a ≤ x → f x ≡ g x) → tabulate f a n ≡ tabulate g a n
-tabulate-between f g a zero h = refl
-tabulate-between {A} f g a (suc n) h =
-    ap (λ (x : A). x ∷ tabulate f (suc a) n) (h a (omega arith)) ∙ ap (λ (l : List A). g a ∷ l) (tabulate-between f g (suc a) n (λ x k. h x (omega arith)))
-
 module _ {func w u v z : List ℕ} {m : ℕ} (clear : w ≡ replicate (length w) 0) (k : Visited func u m) (laid : LayWords (funcOf func) w u)
     (low : Cleared 0 linesAt u v) (mid : Cleared childrenAt pointsAt v z) where
   same : (x : ℕ) → linesAt ≤ x → x < childrenAt → getD z x 0 ≡ getD u x 0
@@ -165,16 +159,7 @@ module _ {func w u v z : List ℕ} {m : ℕ} (clear : w ≡ replicate (length w)
   same-high x h = mid .aside .after x h ∙ low .aside .after x (omega arith)
 
   pub visited-still : length z ≡ length u → Visited func z m
-  visited-still l = record {
-    tables = k .tables;
-    walkable = k .walkable;
-    size = omega (arith, k .size);
-    few = k .few;
-    count = k .count;
-    order = tabulate-between (λ i. pointOf (getD z i 0)) (λ i. pointOf (getD u i 0)) pointsAt m (λ x a. ap pointOf (same-high x a)) ∙ k .order;
-    parents = record { word = λ r h. same-high (parentsAt + r) (omega arith) ∙ k .parents .word r h };
-    lines = record { line = λ r h. same (linesAt + r) (omega arith) (omega arith) ∙ k .lines .line r h };
-  }
+  visited-still l = visited-kept k same (λ x a h. same-high x a) l
 
   pub block-words : BlockWords (funcOf func) z
   unfolding blockWord

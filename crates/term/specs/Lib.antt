@@ -2,3 +2,4 @@
 pub mod At
 pub mod Visited
 pub mod Way
+pub mod Edges

@@ -1,6 +1,6 @@
 -- What the functions of this crate ask: the walk is made, and its points and tables stand in the work slice. Assumes nothing.
 --     visited-walked    what the walk promises is as asked
---     visited-kept      it stays so where other words are written
+--     visited-kept, visited-below      it stays so where other words are written
 --     word-is, point-word    the word of a position says the point
 --     point-small, label-small    points and labels have small numbers
 use mathlib.Core.Path.{_≡_, refl, sym, ap, _∙_}
@@ -15,7 +15,7 @@ use Rattle.lifting.specs.Walk.{walkOf}
 use Rattle.lifting.specs.Absorb.{labels}
 use Rattle.func.specs.Decode.{funcOf}
 use Rattle.func.specs.Tables.{Tables}
-use Rattle.control.specs.Tables.{Indexed, linesAt}
+use Rattle.control.specs.Tables.{Indexed, childrenAt, linesAt}
 use Rattle.flat.specs.Flat.{noPair}
 use Rattle.flat.specs.Uses.{labels-visited}
 use Rattle.runs.specs.Members.{In, all-in, in-getD}
@@ -39,24 +39,29 @@ pub visited-walked : {w : List ℕ} (u v : List ℕ) {m : ℕ} → Tables w → 
     → m ≡ length (walkOf (funcOf w)) → visited v m ≡ points (walkOf (funcOf w)) → m ≤ 512 → Parents (funcOf w) v → Indexed (funcOf w) v → Visited w v m
 visited-walked u v t ok z l c o f p x = record { tables = t; walkable = ok; size = omega arith; few = f; count = c; order = o; parents = p; lines = x }
 
-tabulate-same : {A : Type 0} (f g : ℕ → A) (a n : ℕ) → ((x : ℕ) → x < a + n → f x ≡ g x) → tabulate f a n ≡ tabulate g a n
+tabulate-same : {A : Type 0} (f g : ℕ → A) (a n : ℕ) → ((x : ℕ) → a ≤ x → x < a + n → f x ≡ g x) → tabulate f a n ≡ tabulate g a n
 tabulate-same f g a zero h = refl
 tabulate-same {A} f g a (suc n) h =
-    ap (λ (x : A). x ∷ tabulate f (suc a) n) (h a (omega arith)) ∙ ap (λ (l : List A). g a ∷ l) (tabulate-same f g (suc a) n (λ x k. h x (omega arith)))
+    ap (λ (x : A). x ∷ tabulate f (suc a) n) (h a (omega arith) (omega arith))
+    ∙ ap (λ (l : List A). g a ∷ l) (tabulate-same f g (suc a) n (λ x l k. h x (omega arith) (omega arith)))
 
--- the words before the tables' end stay
-pub visited-kept : {w u v : List ℕ} {m : ℕ} → Visited w u m → ((x : ℕ) → x < parentsEnd → getD v x 0 ≡ getD u x 0) → length v ≡ length u → Visited w v m
-visited-kept {w} {u} {v} {m} k same l = record {
+-- the words of the ctrl lines, of the points and of the parents stay
+pub visited-kept : {w u v : List ℕ} {m : ℕ} → Visited w u m → ((x : ℕ) → linesAt ≤ x → x < childrenAt → getD v x 0 ≡ getD u x 0)
+    → ((x : ℕ) → pointsAt ≤ x → x < parentsEnd → getD v x 0 ≡ getD u x 0) → length v ≡ length u → Visited w v m
+visited-kept {w} {u} {v} {m} k lines points l = record {
   tables = k .tables;
   walkable = k .walkable;
   size = omega (arith, k .size);
   few = k .few;
   count = k .count;
   order =
-      tabulate-same (λ i. pointOf (getD v i 0)) (λ i. pointOf (getD u i 0)) pointsAt m (λ x h. ap pointOf (same x (omega (arith, k .few)))) ∙ k .order;
-  parents = record { word = λ r h. same (parentsAt + r) (omega arith) ∙ k .parents .word r h };
-  lines = record { line = λ r h. same (linesAt + r) (omega arith) ∙ k .lines .line r h };
+      tabulate-same (λ i. pointOf (getD v i 0)) (λ i. pointOf (getD u i 0)) pointsAt m (λ x a h. ap pointOf (points x a (omega (arith, k .few)))) ∙ k .order;
+  parents = record { word = λ r h. points (parentsAt + r) (omega arith) (omega arith) ∙ k .parents .word r h };
+  lines = record { line = λ r h. lines (linesAt + r) (omega arith) (omega arith) ∙ k .lines .line r h };
 }
+
+pub visited-below : {w u v : List ℕ} {m : ℕ} → Visited w u m → ((x : ℕ) → x < parentsEnd → getD v x 0 ≡ getD u x 0) → length v ≡ length u → Visited w v m
+visited-below k same l = visited-kept k (λ x a b. same x (omega arith)) (λ x a b. same x b) l
 
 points-at : (T : Table) (i : ℕ) → getD (points T) i (regionEntry 0) ≡ getD T i noPair .0
 points-at [] i = refl

@@ -80,7 +80,7 @@ at-after w [] a j h = refl
 at-after w (v ∷ vs) a j h =
     at-after (set w a v) vs (suc a) j (omega arith) ∙ getD-set-other w a j v 0 (λ e. omega arith)
 
-sets-sets : (w xs ys : List ℕ) (a : ℕ) → sets (sets w a xs) (a + length xs) ys ≡ sets w a (xs ++ ys)
+pub sets-sets : (w xs ys : List ℕ) (a : ℕ) → sets (sets w a xs) (a + length xs) ys ≡ sets w a (xs ++ ys)
 sets-sets w [] ys a = ap (λ (k : ℕ). sets w k ys) (omega arith)
 sets-sets w (x ∷ xs) ys a =
     ap (λ (k : ℕ). sets (sets (set w a x) (suc a) xs) k ys) (add-suc a (length xs) ∙ sym (suc-add a (length xs)))
