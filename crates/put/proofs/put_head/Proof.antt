@@ -1,0 +1,26 @@
+use Rattle.put.specs.Put.{put-more}
+use borrow.Author.Needs.{needs}
+use Rattle.put.proofs.put_head.Statement.{statement}
+use Rattle.put.proofs.put_head.Tie as tie
+use Rattle.put.proofs.put_head.Reads as reads
+use Rattle.put.proofs.put_head.Lts as lts
+use Rattle.put.proofs.put_word.Reads as put-word-reads
+
+returns : tie.Need-returns
+returns c =
+    put-more (c .before .before .before .before .before .before .before .before .before .before .before .before .before .before .before .before .before .before .put-word .ensures)
+    (put-more (c .before .before .before .before .before .before .before .before .before .before .before .before .before .before .put-word2 .ensures)
+    (put-more (c .before .before .before .before .before .before .before .before .before .before .put-word3 .ensures)
+    (put-more (c .before .before .before .before .before .before .put-word4 .ensures) (c .before .before .put-word5 .ensures))))
+
+pub put-head-spec : {M : Type 1} → statement M
+put-head-spec =
+    tie.close
+    (tie.spec
+    (λ c κs. search needs)
+    (λ c κs. search needs)
+    (λ c κs. search needs)
+    (λ c κs. search needs)
+    (λ c κs. search needs)
+    (λ c. search needs)
+    returns)
