@@ -1,0 +1,37 @@
+-- `lists::ops::op_opcode` meets its contract: by the kind of the op. Assumes nothing.
+use mathlib.Core.Path.{_∙_}
+use Rattle.lifting.specs.Parts.{opOf}
+use Rattle.func.specs.Decode.{funcOf}
+use Rattle.lists.proofs.Opcodes.{op-opcode-is}
+use borrow.Author.Needs.{needs}
+use Rattle.lists.proofs.ops.op_opcode.Statement.{statement}
+use Rattle.lists.proofs.ops.op_opcode.Tie as tie
+
+returns : tie.Need-returns
+returns c =
+    let s = c .before .before .before .before .before in
+    op-opcode-is (opOf (funcOf (s .args .func .now)) (s .args .o) .kind) (c .before .before .before .op-kind .ensures) (c .before .kind .given .1)
+
+returns-2 : tie.Need-returns-2
+returns-2 c =
+    let s = c .before .before .before .before .before in
+    c .opcode .ensures ∙ op-opcode-is (opOf (funcOf (s .args .func .now)) (s .args .o) .kind) (c .before .before .before .op-kind .ensures) (c .before .enum-told .given .1)
+
+returns-3 : tie.Need-returns-3
+returns-3 c =
+    let s = c .before .before .before .before .before in
+    c .opcode2 .ensures ∙ op-opcode-is (opOf (funcOf (s .args .func .now)) (s .args .o) .kind) (c .before .before .before .op-kind .ensures) (c .before .enum-told2 .given .1)
+
+pub op-opcode-spec : {M : Type 1} → statement M
+op-opcode-spec =
+    tie.close
+    (tie.spec
+    (λ c κs. search needs)
+    (λ c. search needs)
+    (λ c. search needs)
+    (λ c κs. search needs)
+    (λ c. search needs)
+    (λ c κs. search needs)
+    returns
+    returns-2
+    returns-3)

@@ -1,0 +1,18 @@
+-- `lists::ways::return_opcode` meets its contract. Assumes nothing.
+use mathlib.Core.Path.{_∙_}
+use Rattle.lists.proofs.Opcodes.{return-some}
+use borrow.Author.Needs.{needs}
+use Rattle.lists.proofs.ways.return_opcode.Statement.{statement}
+use Rattle.lists.proofs.ways.return_opcode.Tie as tie
+
+returns-2 : tie.Need-returns-2
+returns-2 c = c .opcode2 .ensures ∙ return-some (c .before .before .args .n) (c .before .if1 .left)
+
+pub return-opcode-spec : {M : Type 1} → statement M
+return-opcode-spec =
+    tie.close
+    (tie.spec
+    (λ c κs. search needs)
+    (λ c. search needs)
+    (λ c κs. search needs)
+    returns-2)

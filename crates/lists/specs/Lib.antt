@@ -1,0 +1,3 @@
+-- The lists that an instruction is made of, by the lines that they stand in.
+pub mod Named
+pub mod Phis
