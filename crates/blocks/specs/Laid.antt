@@ -89,7 +89,7 @@ module _ {w u : List ℕ} {m : ℕ} (k : Visited w u m) (b : BlockWords (funcOf 
   blank-before x h = b .word x ∙ lower x linesAt _ _ h
 
 -- a function without a body is not walked
-walk-none : (F : Func) → F .regions ≡ [] → walkOf F ≡ []
+pub walk-none : (F : Func) → F .regions ≡ [] → walkOf F ≡ []
 unfolding walkOf
 walk-none F e = rw e
 

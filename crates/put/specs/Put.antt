@@ -3,7 +3,7 @@
 --     Put                      items appended: the whole slice at exit, the next place, and whether an id was missing
 --     put-none, put-one        no item, and one
 --     put-more                 one run of items after another
---     put-turn, put-done       a loop that appends a run of items a turn
+--     Loop, loop-start, loop-turn, loop-end    a loop that appends a run of items a turn
 --     put-same, put-length     the same items; the slice keeps its length
 use mathlib.Core.Path.{_≡_, refl, sym, ap, subst, _∙_}
 use mathlib.Core.Bool.{Bool, true, false, _||_}
@@ -146,14 +146,19 @@ put-length {w} {c = c} {l = l} p = ap length (p .words) ∙ length-sets w (c .at
 pub put-same : {w u : List ℕ} {c d : Cursor} {k l : List Item} → Put w c k u d → k ≡ l → Put w c l u d
 put-same {w} {u} {c} {d} p e = subst (λ (x : List Item). Put w c x u d) e p
 
--- a loop: the items of the turns before i stand there
-pub put-start : (g : ℕ → List Item) {w : List ℕ} {c : Cursor} → length w ≤ lastPlace → c .at ≤ lastPlace → Put w c (upTo g 0) w c
-unfolding upTo
-put-start g h k = put-none h k
+-- a loop that appends g k in turn k of n, where k turns were made
+pub record Loop (g : ℕ → List Item) (n : ℕ) (w : List ℕ) (c : Cursor) (k : ℕ) (out : List ℕ) (d : Cursor) : Type 0 where
+  pub within : k ≤ n
+  pub put : Put w c (upTo g k) out d
 
-pub put-turn : (g : ℕ → List Item) (i : ℕ) {w u v : List ℕ} {c d e : Cursor} → Put w c (upTo g i) u d → Put u d (g i) v e → Put w c (upTo g (i + 1)) v e
+pub loop-start : (g : ℕ → List Item) (n : ℕ) {w : List ℕ} {c : Cursor} → length w ≤ lastPlace → c .at ≤ lastPlace → Loop g n w c 0 w c
 unfolding upTo
-put-turn g i {w} {v = v} {c} {e = e} p q = subst (λ (j : ℕ). Put w c (upTo g j) v e) (sym (add-one i)) (put-more p q)
+loop-start g n h k = record { within = omega arith; put = put-none h k }
 
-pub put-done : (g : ℕ → List Item) (i n : ℕ) {w u : List ℕ} {c d : Cursor} → Put w c (upTo g i) u d → i ≡ n → Put w c (upTo g n) u d
-put-done g i n {w} {u} {c} {d} p e = subst (λ (m : ℕ). Put w c (upTo g m) u d) e p
+pub loop-turn : {g : ℕ → List Item} {n : ℕ} {w u v : List ℕ} {c d e : Cursor} {k : ℕ} → Loop g n w c k u d → k < n → Put u d (g k) v e → Loop g n w c (k + 1) v e
+unfolding upTo
+loop-turn {g} {w = w} {v = v} {c} {e = e} {k} p h q =
+    record { within = omega arith; put = subst (λ (j : ℕ). Put w c (upTo g j) v e) (sym (add-one k)) (put-more (p .put) q) }
+
+pub loop-end : {g : ℕ → List Item} {n : ℕ} {w u : List ℕ} {c d : Cursor} {k : ℕ} → Loop g n w c k u d → n ≤ k → Put w c (upTo g n) u d
+loop-end {g} {n} {w} {u} {c} {d} p h = subst (λ (j : ℕ). Put w c (upTo g j) u d) (omega (arith, p .within)) (p .put)

@@ -1,0 +1,3 @@
+-- What the proofs of linking cite.
+pub mod Ways
+pub mod Linking

@@ -1,0 +1,3 @@
+-- What the proofs of new ids cite.
+pub mod Giving
+pub mod Numbering

@@ -1,0 +1,74 @@
+use mathlib.Core.Path.{_≡_, sym, ap, _∙_}
+use Prim.Native.Nat.{ℕ, _≤_, _-_}
+use native.Mathlib.Omega.{arith}
+use borrow.Author.Needs.{needs}
+use lib.ListN.{getD, length}
+use Rattle.lifting.specs.Ast.{Imm}
+use Rattle.func.specs.Decode.{funcOf}
+use Rattle.func.specs.Kinds.{immFrom}
+use Rattle.lists.specs.Named.{immsOf}
+use Rattle.put.specs.Put.{Loop, loop-end, loop-start, loop-turn, put-length, put-same}
+use Rattle.insts.specs.Parts.{immItems, upTo-gather}
+use Rattle.insts.proofs.parts.put_imms.Statement.{statement}
+use Rattle.insts.proofs.parts.put_imms.Tie as tie
+use Rattle.insts.proofs.parts.put_imms.Reads as reads
+use Rattle.insts.proofs.parts.put_imms.Lts as lts
+use Rattle.insts.proofs.parts.put_imm.Reads as put-imm-reads
+use Rattle.lists.proofs.elements.imm_at.Reads as imm-at-reads
+use Rattle.lists.proofs.elements.imm_count.Reads as imm-count-reads
+
+abbrev Inv-loop : tie.InvT-loop
+Inv-loop func out₀ l n d₀ k₀ out d k = Loop (λ j. immItems (getD (immsOf (funcOf func) l) j (immFrom 0 0 0))) (length (immsOf (funcOf func) l)) out₀ d₀ k out d
+
+abbrev μ-loop : tie.MeasureT-loop
+μ-loop func out₀ l n d₀ k₀ out d k = n - k
+
+imm-count-requires : tie.Need-imm-count-requires Inv-loop μ-loop
+imm-count-requires c κs = search needs
+
+loop-holds : tie.Need-loop-holds Inv-loop μ-loop
+loop-holds c = loop-start _ _ (omega arith) (omega arith)
+
+imm-at-requires : tie.Need-imm-at-requires Inv-loop μ-loop
+imm-at-requires c κs =
+    (c .before .before .before .before .before .before .pre .0, (c .before .before .before .before .before .before .pre .1, omega (arith, c .before .before .before .imm-count .ensures .0)))
+
+put-imm-requires : tie.Need-put-imm-requires Inv-loop μ-loop
+put-imm-requires c κs = search needs
+
+add-k : tie.Need-add-k Inv-loop μ-loop
+add-k c =
+    search needs
+
+loop-less : tie.Need-loop-less Inv-loop μ-loop
+loop-less c =
+    omega arith
+
+loop-again : tie.Need-loop-again Inv-loop μ-loop
+loop-again c =
+    loop-turn (c .before .before .before .before .before .before .loop .inv) (omega (arith, c .before .before .before .before .before .before .before .imm-count .ensures .0)) (put-same (c .before .before .put-imm .ensures) (ap immItems (c .before .before .before .imm-at .ensures)))
+
+same-length : tie.Need-same-length Inv-loop μ-loop
+same-length c =
+    let l = put-length (c .before .loop .inv .put) in search needs
+
+returns : tie.Need-returns Inv-loop μ-loop
+returns c =
+    let a = c .before .before .before .before .before .args in
+    put-same (loop-end (c .before .loop .inv) (omega (arith, c .before .before .imm-count .ensures .0))) (upTo-gather immItems (immsOf (funcOf (a .func .now)) (a .l)) (immFrom 0 0 0))
+
+pub put-imms-spec : {M : Type 1} → statement M
+put-imms-spec =
+    tie.close
+    (tie.spec
+    Inv-loop
+    μ-loop
+    imm-count-requires
+    loop-holds
+    imm-at-requires
+    put-imm-requires
+    add-k
+    loop-less
+    loop-again
+    same-length
+    returns)

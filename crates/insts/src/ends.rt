@@ -1,0 +1,103 @@
+// How a block begins and ends: its label, its merge, its way out.
+use crate::parts::label_of;
+use crate::parts::put_front;
+use crate::parts::put_targets;
+use crate::parts::put_values;
+use lists::Imms;
+use lists::elements::value_count;
+use lists::ways::way_attrs;
+use lists::ways::way_imms;
+use lists::ways::way_ins;
+use lists::ways::way_opcode;
+use opcodes::InstKind;
+use opcodes::opcode;
+use put::Cursor;
+use put::put_id;
+use term::Way;
+use term::parts::merge;
+use term::parts::merges;
+use term::parts::targets;
+use term::ways::way;
+ghost use mathlib.Core.Path.{_≡_};
+ghost use mathlib.Core.List.{[], _∷_, _++_};
+ghost use Prim.Native.Nat.{_+_, _≤_, _<_};
+ghost use lib.ListN.{getD, length};
+ghost use Rattle.lifting.specs.Points.{regionEntry};
+ghost use Rattle.lifting.specs.Absorb.{mergeLabels};
+ghost use Rattle.func.specs.Decode.{funcOf};
+ghost use Rattle.runs.specs.Members.{All};
+ghost use Rattle.runs.specs.Refers.{Named};
+ghost use Rattle.points.specs.Numbers.{Small, pointOf};
+ghost use Rattle.term.specs.At.{blockAt, pointAt};
+ghost use Rattle.term.specs.Way.{Known, wayMerge, wayTerm};
+ghost use Rattle.put.specs.Put.{Put};
+ghost use Rattle.insts.specs.Parts.{labelsIn, mergeIn, startIn, termIn};
+ghost use Rattle.insts.specs.Ready.{Ready};
+
+// The operand kinds of the immediates that merges carry.
+const SELECTION_CONTROL: u32 = 2;
+
+const LOOP_CONTROL: u32 = 3;
+
+// Appends the label that the i-th visited point's block starts with.
+pub fn put_label(func: &[u32], work: &[u32], out: &mut [u32], c: Cursor, m: usize, first: u32, q: usize) -> Cursor
+    requires { ⌜ Ready (now func) (now work) m first ⌝ }
+    requires { ⌜ q < 512 ⌝ }
+    ensures { λ r. ⌜ Put (now (out .entry)) c (startIn (funcOf (now (func .entry))) first (pointOf q)) (now (out .exit)) r ⌝ }
+{
+    put_front(func, out, c, opcode(InstKind::Label), 0, 0, label_of(work, q), Imms::None, 0)
+}
+
+// Appends merge label k of a way out.
+fn put_merge_label(func: &[u32], work: &[u32], out: &mut [u32], c: Cursor, m: usize, first: u32, w: Way, k: usize) -> Cursor
+    requires { ⌜ Ready (now func) (now work) m first ⌝ }
+    requires { ⌜ Known (now func) w × All Small (mergeLabels (wayMerge w)) ⌝ }
+    requires { ⌜ k < length (mergeLabels (wayMerge w)) ⌝ }
+    ensures { λ r. ⌜ Put (now (out .entry)) c (labelsIn (funcOf (now (func .entry))) first (getD (mergeLabels (wayMerge w)) k (regionEntry 0) ∷ [])) (now (out .exit)) r ⌝ }
+{
+    put_id(out, c, label_of(work, merge(func, w, k)))
+}
+
+// Appends the merge of a way out: a select's has one label, a loop's two.
+fn put_merge(func: &[u32], work: &[u32], out: &mut [u32], c: Cursor, m: usize, first: u32, w: Way) -> Cursor
+    requires { ⌜ Ready (now func) (now work) m first ⌝ }
+    requires { ⌜ Known (now func) w × All Small (mergeLabels (wayMerge w)) ⌝ }
+    ensures { λ r. ⌜ Put (now (out .entry)) c (mergeIn (funcOf (now (func .entry))) first (wayMerge w)) (now (out .exit)) r ⌝ }
+{
+    let count = merges(w);
+    if count == 0 {
+        return c;
+    }
+    if count == 1 {
+        let a = put_front(func, out, c, opcode(InstKind::SelectionMerge), 0, 0, 0, Imms::Short(SELECTION_CONTROL, 0), 1);
+        return put_merge_label(func, work, out, a, m, first, w, 0);
+    }
+    let b = put_front(func, out, c, opcode(InstKind::LoopMerge), 0, 0, 0, Imms::Short(LOOP_CONTROL, 0), 2);
+    let d = put_merge_label(func, work, out, b, m, first, w, 0);
+    put_merge_label(func, work, out, d, m, first, w, 1)
+}
+
+// Appends a way out.
+fn put_term(func: &[u32], work: &[u32], out: &mut [u32], c: Cursor, m: usize, first: u32, w: Way) -> Cursor
+    requires { ⌜ Ready (now func) (now work) m first ⌝ }
+    requires { ⌜ (0 < m) × Known (now func) w ⌝ }
+    requires { ⌜ All Small (wayTerm (funcOf (now func)) w .targets) × All (Named (funcOf (now func))) (wayTerm (funcOf (now func)) w .ins) ⌝ }
+    ensures { λ r. ⌜ Put (now (out .entry)) c (termIn (funcOf (now (func .entry))) first (wayTerm (funcOf (now (func .entry))) w)) (now (out .exit)) r ⌝ }
+{
+    let ins = way_ins(func, w);
+    let ids = value_count(func, ins) + targets(func, w);
+    let a = put_front(func, out, c, way_opcode(func, w), way_attrs(func, w), 0, 0, way_imms(func, w), ids);
+    let b = put_values(func, work, out, a, m, first, ins);
+    put_targets(func, work, out, b, m, first, w)
+}
+
+// Appends the merge and the way out of the i-th visited point.
+pub fn put_end(func: &[u32], work: &[u32], out: &mut [u32], c: Cursor, m: usize, first: u32, i: usize) -> Cursor
+    requires { ⌜ Ready (now func) (now work) m first ⌝ }
+    requires { ⌜ i < m ⌝ }
+    ensures { λ r. ⌜ Put (now (out .entry)) c (mergeIn (funcOf (now (func .entry))) first (blockAt (funcOf (now (func .entry))) i .term .merge) ++ termIn (funcOf (now (func .entry))) first (blockAt (funcOf (now (func .entry))) i .term)) (now (out .exit)) r ⌝ }
+{
+    let w = way(func, work, m, i);
+    let a = put_merge(func, work, out, c, m, first, w);
+    put_term(func, work, out, a, m, first, w)
+}
