@@ -85,7 +85,7 @@ pub fn put_front(
 }
 
 // The id of a value.
-fn id_of(func: &[u32], work: &[u32], m: usize, first: u32, v: Val) -> u32
+pub fn id_of(func: &[u32], work: &[u32], m: usize, first: u32, v: Val) -> u32
     requires { ⌜ Ready (now func) (now work) m first ⌝ }
     requires { ⌜ 0 < m ⌝ }
     requires { ⌜ named (funcOf (now func)) (asValue v) ≡ true ⌝ }

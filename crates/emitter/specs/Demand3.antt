@@ -1,0 +1,51 @@
+-- Demand 3 about the words that stand in the output slice after an accepted call: running the regions of the text and running the blocks of that list
+-- are alike in every world. The hypotheses are what `lift_function` promises, that it told a word count, and that the text has a body. Assumes nothing.
+use mathlib.Core.Path.{_≡_, refl, sym, ap, subst, _∙_}
+use mathlib.Core.Bool.{true}
+use mathlib.Core.List.{List, _++_}
+use mathlib.Core.Option.{some}
+use Prim.Native.Nat.{ℕ, _≤_}
+use native.Mathlib.Omega.{arith}
+use lib.ListN.{drop, length, length-append, take}
+use lib.Seq.{take-append-seam}
+use Rattle.lifting.specs.Ast.{Func}
+use Rattle.lifting.specs.Grammar.{read}
+use Rattle.lifting.specs.Parts.{hasBody}
+use Rattle.lifting.specs.Words.{listFrom}
+use Rattle.lifting.specs.Answer.{Answer, answer, listed, outAfter, refused}
+use Rattle.lifting.specs.World.{World}
+use Rattle.lifting.specs.Runs.{AlikeRuns, TrueConstants}
+use Rattle.runs.specs.Demand3.{demand-3}
+use Rattle.emitter.specs.declared.Lifted.the-variants.{Whole}
+use Rattle.emitter.specs.Lift.{gives, outcome, refuses, told}
+
+-- an answer that gives n words is their list
+list-of : (a : Answer) (n next : ℕ) → gives n next ≡ outcome a → (ws : List ℕ) × (a ≡ listed ws next) × (n ≡ length ws)
+list-of (listed ws k) n next e =
+    let en : n ≡ length ws = cc in
+    let ek : next ≡ k = cc in
+    (ws, ap (listed ws) (sym ek), en)
+list-of (refused k) n next e = absurd (let z : _≡_ {A = ℕ} 0 1 = cc in omega arith)
+
+module _ (text func work out exit : List ℕ) (first n next : ℕ) where
+  abbrev given : Answer
+  given = answer text first (length func) (length work) (length out)
+
+  module _ (says : told (Whole n next) ≡ outcome given) (stands : exit ≡ outAfter given out) where
+    -- the first n words of the output slice are the list's
+    pub written-list : (ws : List ℕ) × (given ≡ listed ws next) × (take n exit ≡ ws)
+    written-list =
+        let l = list-of given n next says in
+        let ws : List ℕ = l .0 in
+        (ws, l .1, ap (λ (k : ℕ). take k exit) (l .2) ∙ ap (take (length ws)) (stands ∙ ap (λ (a : Answer). outAfter a out) (l .1)) ∙ take-append-seam ws (drop (length ws) out))
+
+    pub written-low : n ≤ length exit
+    written-low =
+        let l = list-of given n next says in
+        omega (arith, l .2, ap length (stands ∙ ap (λ (a : Answer). outAfter a out) (l .1)), length-append (l .0) (drop (length (l .0)) out))
+
+    pub lifted-runs : (F : Func) → read text ≡ some F → hasBody (F .regions) ≡ true → {Val : Type 0} (W : World Val) → TrueConstants F W → AlikeRuns F (listFrom (take n exit)) W
+    lifted-runs F is body W true41 =
+        let l = written-list in
+        subst (λ (ws : List ℕ). AlikeRuns F (listFrom ws) W) (sym (l .2))
+        (demand-3 text first (length func) (length work) (length out) (l .0) next (l .1) F is body W true41)

@@ -1,0 +1,2 @@
+-- What the proofs of phis and their pairs cite.
+pub mod Steps

@@ -1,0 +1,59 @@
+-- `phis::put_phi` meets its contract. Assumes nothing.
+use borrow.Author.Needs.{needs}
+use mathlib.Core.Path.{sym, ap, subst, _∙_}
+use native.Mathlib.Omega.{arith}
+use Rattle.lifting.specs.Ast.{Decl}
+use Rattle.func.specs.Decode.{funcOf}
+use Rattle.runs.specs.Refers.{Named}
+use Rattle.ids.specs.Ids.{idIn}
+use Rattle.put.specs.Put.{put-more, put-same}
+use Rattle.insts.specs.Ready.{ready-visited}
+use Rattle.phis.specs.Items.{phi-runs}
+use Rattle.phis.proofs.Steps.{ids-are, key-names}
+use Rattle.phis.proofs.put_phi.Statement.{statement}
+use Rattle.phis.proofs.put_phi.Tie as tie
+
+phi-key-requires : tie.Need-phi-key-requires
+phi-key-requires c κs =
+    let a = c .before .before .before .args in let p = c .before .before .before .pre in (ready-visited (p .0) (a .i) (p .1 .1 .0 .0), p .1 .1 .0)
+
+id-of-requires : tie.Need-id-of-requires
+id-of-requires c κs =
+    let a = c .before .before .before .before .args in
+    let p = c .before .before .before .before .pre in
+    (p .0, (omega (arith, p .1 .1 .0 .0), subst (Named (funcOf (a .func .now))) (sym (c .phi-key .ensures)) (key-names (p .0) (a .i) (a .j) (p .1 .1 .0 .0) (p .1 .1 .0 .1))))
+
+phi-decl-requires : tie.Need-phi-decl-requires
+phi-decl-requires c κs =
+    let a = c .before .before .before .before .before .args in let p = c .before .before .before .before .before .pre in (ready-visited (p .0) (a .i) (p .1 .1 .0 .0), p .1 .1 .0)
+
+put-front-requires : tie.Need-put-front-requires
+put-front-requires c κs =
+    let p = c .before .before .before .before .before .before .before .before .pre in (p .0 .laid .tables, (tt, omega (arith, p .1 .1 .1 .1 .1)))
+
+put-pairs-requires : tie.Need-put-pairs-requires
+put-pairs-requires c κs = let p = c .before .before .before .before .before .before .before .before .before .before .before .before .pre in (p .0, (p .1 .0, (p .1 .1 .0, p .1 .1 .1 .0)))
+
+returns : tie.Need-returns
+returns c =
+    let a = c .before .before .before .before .before .before .before .before .before .before .before .before .before .before .before .args in
+    let p = c .before .before .before .before .before .before .before .before .before .before .before .before .before .before .before .pre in
+    let F = funcOf (a .func .now) in
+    let d = c .before .before .before .before .before .before .before .before .before .phi-decl .ensures in
+    put-same (put-more (c .before .before .before .before .before .before .put-front .ensures) (c .before .before .put-pairs .ensures))
+    (phi-runs F (a .first) (a .i) (a .j) (c .before .before .before .before .before .before .before .opcode .ensures) (ap (λ (x : Decl). x .attrs) d) (ap (λ (x : Decl). x .type) d)
+    (c .before .before .before .before .before .before .before .before .before .before .id-of .ensures ∙ ap (idIn F (a .first)) (c .before .before .before .before .before .before .before .before .before .before .before .phi-key .ensures))
+    (ids-are (p .0) (a .i) (a .j) (p .1 .1 .0 .0) (p .1 .1 .0 .1) (p .1 .1 .1 .1 .0)))
+
+pub put-phi-spec : {M : Type 1} → statement M
+put-phi-spec =
+    tie.close
+    (tie.spec
+    phi-key-requires
+    id-of-requires
+    phi-decl-requires
+    (λ c κs. search needs)
+    put-front-requires
+    put-pairs-requires
+    (λ c. search needs)
+    returns)
