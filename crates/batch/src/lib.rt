@@ -2,6 +2,7 @@
 ghost use mathlib.Core.Path.{_≡_};
 ghost use Prim.Native.Nat.{_≤_};
 ghost use lib.ListN.{length};
+ghost use Rattle.batch.specs.Held.{heldOf, heldAfter, lenAfter};
 
 // The reader's answer, or the kept blocks.
 pub enum What {
@@ -34,7 +35,7 @@ fn answered(
     work: &mut [u32],
 ) -> usize
     requires { ⌜ len ≤ length (now text) ⌝ }
-    ensures { λ r. ⌜ r ≤ len ⌝ }
+    ensures { λ r. ⌜ r ≡ lenAfter matched len ⌝ }
 {
     if matched == 4 {
         told(what, answers::unmarked(text, len), func, work);
@@ -53,6 +54,7 @@ fn taken(
     work: &mut [u32],
 ) -> State
     requires { ⌜ state .len ≤ length (now text) ⌝ }
+    ensures { λ r. ⌜ heldOf (now (text .exit)) r ≡ heldAfter (heldOf (now (text .entry)) state) (now (batch .entry)) ⌝ }
     ensures { λ r. ⌜ (r .len ≤ length (now (text .exit))) × (length (now (text .exit)) ≡ length (now (text .entry))) ⌝ }
 {
     let mut at: usize = 0;

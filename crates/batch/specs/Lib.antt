@@ -1,0 +1,2 @@
+-- What is held of a batch after the bytes that were read.
+pub mod Held

@@ -1,0 +1,27 @@
+-- `stand::point` meets its contract. Assumes nothing.
+use mathlib.Core.Path.{_∙_}
+use native.Mathlib.Omega.{arith}
+use borrow.Author.Needs.{needs}
+use Rattle.func.specs.Decode.{funcOf}
+use Rattle.points.specs.Numbers.{number-low}
+use Rattle.term.specs.At.{pointAt}
+use Rattle.term.specs.Visited.{point-word, point-small}
+use Rattle.shown.proofs.stand.point.Statement.{statement}
+use Rattle.shown.proofs.stand.point.Tie as tie
+
+returns : tie.Need-returns
+returns c =
+    let s = c .before .before .before .before in
+    let v = s .pre .0 .visited in
+    let e = c .wide .ensures ∙ point-word v (s .args .i) (s .pre .1) in
+    (e, omega (arith, e, number-low (pointAt (funcOf (s .args .func .now)) (s .args .i)) (point-small v (s .args .i) (s .pre .1))))
+
+pub point-spec : {M : Type 1} → statement M
+point-spec =
+    tie.close
+    (tie.spec
+    (λ c. search needs)
+    (λ c. search needs)
+    (λ c. search needs)
+    (λ c κs. search needs)
+    returns)
