@@ -154,3 +154,18 @@ pub fn unmarked(text: &[u8], len: usize) -> &[u8]
     let n = len - MARK;
     &text[..n]
 }
+
+// Reads once, and answers whether there may be more.
+fn skip_some() -> bool {
+    let mut rest = io::large_buffer();
+    0 < libc::read(0, &mut rest)
+}
+
+// Reads the input to its end, so that whoever writes it isn't stopped. A proved loop has to end, so it counts its turns down, from a number that
+// no run uses up.
+pub fn skip_rest() {
+    let mut turns = u64::MAX;
+    while turns > 0 && skip_some() {
+        turns -= 1;
+    }
+}

@@ -4,10 +4,11 @@ ghost use Prim.Native.Nat.{_≤_};
 ghost use lib.ListN.{length};
 ghost use Rattle.batch.specs.Held.{heldOf, heldAfter, lenAfter};
 
-// The reader's answer, or the kept blocks.
+// The reader's answer; the kept blocks; or, of an input with a first line, the list.
 pub enum What {
     Answer,
     Blocks,
+    List,
 }
 
 // How many bytes of a text have been kept, how much of its mark they end with, and whether there may be more.
@@ -17,11 +18,18 @@ struct State {
     more: bool,
 }
 
+// Prints the list of an input, or its refusal, and the line that ends it.
+fn tell_list(input: &[u8], func: &mut [u32], work: &mut [u32]) {
+    told::tell(input, func, work);
+    io::write_all(1, b"%%\n");
+}
+
 // Prints what is asked of a text.
-fn told(what: What, text: &[u8], func: &mut [u32], work: &mut [u32]) {
+fn tell(what: What, text: &[u8], func: &mut [u32], work: &mut [u32]) {
     match what {
         What::Answer => answers::tell(text, func, work),
         What::Blocks => shown::tell(text, func, work),
+        What::List => tell_list(text, func, work),
     }
 }
 
@@ -38,7 +46,7 @@ fn answered(
     ensures { λ r. ⌜ r ≡ lenAfter matched len ⌝ }
 {
     if matched == 4 {
-        told(what, answers::unmarked(text, len), func, work);
+        tell(what, answers::unmarked(text, len), func, work);
         return 0;
     }
     len
@@ -109,8 +117,8 @@ fn all_read(what: What, text: &mut [u8], func: &mut [u32], work: &mut [u32]) {
 
 // All texts of the batch.
 pub fn run(what: What) {
-    // A byte more than a text may have, and its mark: what follows changes nothing.
-    let mut text = [0u8; 32772];
+    // The longest first line, a byte more than a text may have, and its mark: what follows changes nothing.
+    let mut text = [0u8; 32790];
     let mut func = [0u32; 16384];
     let mut work = [0u32; 16384];
     all_read(what, &mut text, &mut func, &mut work);

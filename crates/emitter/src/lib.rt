@@ -127,7 +127,13 @@ fn from_tables(first: u32, func: &mut [u32], work: &mut [u32], out: &mut [u32]) 
 
 // The list of the text stands in the output slice, and its count of words and the next free id are given; or the first refusal that holds, in the
 // order 8, 1 to 7, 9, 10, 11. Output beyond the list, and all of it after a refusal, keeps its words; both scratch slices end as zeros, except after 8.
-pub fn lift_function(text: &[u8], first: u32, func: &mut [u32], work: &mut [u32], out: &mut [u32]) -> Lifted
+pub fn lift_function(
+    text: &[u8],
+    first: u32,
+    func: &mut [u32],
+    work: &mut [u32],
+    out: &mut [u32],
+) -> Lifted
     ensures { λ r. ⌜ told r ≡ outcome (answer (now (text .entry)) first (length (now (func .entry))) (length (now (work .entry))) (length (now (out .entry)))) ⌝ }
     ensures { λ _. ⌜ now (func .exit) ≡ scratchAfter (answer (now (text .entry)) first (length (now (func .entry))) (length (now (work .entry))) (length (now (out .entry)))) (now (func .entry)) ⌝ }
     ensures { λ _. ⌜ now (work .exit) ≡ scratchAfter (answer (now (text .entry)) first (length (now (func .entry))) (length (now (work .entry))) (length (now (out .entry)))) (now (work .entry)) ⌝ }

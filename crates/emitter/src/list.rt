@@ -48,7 +48,17 @@ fn put_function(func: &[u32], out: &mut [u32], c: Cursor, first: u32) -> Cursor
     let control = Imms::Short(FUNCTION_CONTROL, func_control(func));
     let attrs = func_attrs(func);
     let ret = func_ret(func);
-    let a = put_front(func, out, c, opcode(InstKind::Function), attrs, ret, first, control, 1);
+    let a = put_front(
+        func,
+        out,
+        c,
+        opcode(InstKind::Function),
+        attrs,
+        ret,
+        first,
+        control,
+        1,
+    );
     put_id(out, a, func_type(func))
 }
 
@@ -61,7 +71,17 @@ fn put_param(func: &[u32], out: &mut [u32], c: Cursor, first: u32, i: usize) -> 
     let attrs = param_attrs(func, i);
     let ty = param_type(func, i);
     let result = first + 1 + i as u32;
-    put_front(func, out, c, opcode(InstKind::FunctionParameter), attrs, ty, result, Imms::None, 0)
+    put_front(
+        func,
+        out,
+        c,
+        opcode(InstKind::FunctionParameter),
+        attrs,
+        ty,
+        result,
+        Imms::None,
+        0,
+    )
 }
 
 // Appends the parameters.
@@ -85,11 +105,29 @@ fn put_last(func: &[u32], out: &mut [u32], c: Cursor, first: u32) -> Cursor
     requires { ⌜ Tables (now func) ⌝ }
     ensures { λ r. ⌜ Put (now (out .entry)) c (lastIn (funcOf (now (func .entry))) first) (now (out .exit)) r ⌝ }
 {
-    put_front(func, out, c, opcode(InstKind::FunctionEnd), 0, 0, 0, Imms::None, 0)
+    put_front(
+        func,
+        out,
+        c,
+        opcode(InstKind::FunctionEnd),
+        0,
+        0,
+        0,
+        Imms::None,
+        0,
+    )
 }
 
 // Appends the label and the phis of the block that starts at the i-th visited point.
-fn put_start(func: &[u32], work: &[u32], out: &mut [u32], c: Cursor, m: usize, first: u32, i: usize) -> Cursor
+fn put_start(
+    func: &[u32],
+    work: &[u32],
+    out: &mut [u32],
+    c: Cursor,
+    m: usize,
+    first: u32,
+    i: usize,
+) -> Cursor
     requires { ⌜ Over (now func) (now work) m first ⌝ }
     requires { ⌜ (i < m) × (stands (funcOf (now func)) i ≡ starts) ⌝ }
     ensures { λ r. ⌜ Put (now (out .entry)) c (startIn (funcOf (now (func .entry))) first (pointAt (funcOf (now (func .entry))) i) ++ phisIn (funcOf (now (func .entry))) first (pointAt (funcOf (now (func .entry))) i) (blockAt (funcOf (now (func .entry))) i .keys) (blockAt (funcOf (now (func .entry))) i .decls)) (now (out .exit)) r ⌝ }
@@ -100,7 +138,15 @@ fn put_start(func: &[u32], work: &[u32], out: &mut [u32], c: Cursor, m: usize, f
 }
 
 // Appends the ops of the i-th visited point, and the end of its block unless it absorbs the next point.
-fn put_rest(func: &[u32], work: &[u32], out: &mut [u32], c: Cursor, m: usize, first: u32, i: usize) -> Cursor
+fn put_rest(
+    func: &[u32],
+    work: &[u32],
+    out: &mut [u32],
+    c: Cursor,
+    m: usize,
+    first: u32,
+    i: usize,
+) -> Cursor
     requires { ⌜ Over (now func) (now work) m first ⌝ }
     requires { ⌜ i < m ⌝ }
     ensures { λ r. ⌜ Put (now (out .entry)) c (opsAt (funcOf (now (func .entry))) first i ++ endAt (funcOf (now (func .entry))) first i) (now (out .exit)) r ⌝ }
@@ -113,7 +159,15 @@ fn put_rest(func: &[u32], work: &[u32], out: &mut [u32], c: Cursor, m: usize, fi
 }
 
 // Appends what the i-th visited point gives.
-fn put_point(func: &[u32], work: &[u32], out: &mut [u32], c: Cursor, m: usize, first: u32, i: usize) -> Cursor
+fn put_point(
+    func: &[u32],
+    work: &[u32],
+    out: &mut [u32],
+    c: Cursor,
+    m: usize,
+    first: u32,
+    i: usize,
+) -> Cursor
     requires { ⌜ Over (now func) (now work) m first ⌝ }
     requires { ⌜ i < m ⌝ }
     ensures { λ r. ⌜ Put (now (out .entry)) c (pointItems (funcOf (now (func .entry))) first i) (now (out .exit)) r ⌝ }
@@ -130,7 +184,14 @@ fn put_point(func: &[u32], work: &[u32], out: &mut [u32], c: Cursor, m: usize, f
 }
 
 // Appends what all visited points give.
-fn put_points(func: &[u32], work: &[u32], out: &mut [u32], c: Cursor, m: usize, first: u32) -> Cursor
+fn put_points(
+    func: &[u32],
+    work: &[u32],
+    out: &mut [u32],
+    c: Cursor,
+    m: usize,
+    first: u32,
+) -> Cursor
     requires { ⌜ Over (now func) (now work) m first ⌝ }
     ensures { λ r. ⌜ Put (now (out .entry)) c (upTo (pointItems (funcOf (now (func .entry))) first) m) (now (out .exit)) r ⌝ }
 {
@@ -144,7 +205,14 @@ fn put_points(func: &[u32], work: &[u32], out: &mut [u32], c: Cursor, m: usize, 
 }
 
 // Appends the whole list.
-pub fn put_list(func: &[u32], work: &[u32], out: &mut [u32], c: Cursor, m: usize, first: u32) -> Cursor
+pub fn put_list(
+    func: &[u32],
+    work: &[u32],
+    out: &mut [u32],
+    c: Cursor,
+    m: usize,
+    first: u32,
+) -> Cursor
     requires { ⌜ Over (now func) (now work) m first ⌝ }
     ensures { λ r. ⌜ Put (now (out .entry)) c (listItems (listOf (funcOf (now (func .entry))) first)) (now (out .exit)) r ⌝ }
 {

@@ -40,16 +40,43 @@ const SELECTION_CONTROL: u32 = 2;
 const LOOP_CONTROL: u32 = 3;
 
 // Appends the label that the i-th visited point's block starts with.
-pub fn put_label(func: &[u32], work: &[u32], out: &mut [u32], c: Cursor, m: usize, first: u32, q: usize) -> Cursor
+pub fn put_label(
+    func: &[u32],
+    work: &[u32],
+    out: &mut [u32],
+    c: Cursor,
+    m: usize,
+    first: u32,
+    q: usize,
+) -> Cursor
     requires { ⌜ Ready (now func) (now work) m first ⌝ }
     requires { ⌜ q < 512 ⌝ }
     ensures { λ r. ⌜ Put (now (out .entry)) c (startIn (funcOf (now (func .entry))) first (pointOf q)) (now (out .exit)) r ⌝ }
 {
-    put_front(func, out, c, opcode(InstKind::Label), 0, 0, label_of(work, q), Imms::None, 0)
+    put_front(
+        func,
+        out,
+        c,
+        opcode(InstKind::Label),
+        0,
+        0,
+        label_of(work, q),
+        Imms::None,
+        0,
+    )
 }
 
 // Appends merge label k of a way out.
-fn put_merge_label(func: &[u32], work: &[u32], out: &mut [u32], c: Cursor, m: usize, first: u32, w: Way, k: usize) -> Cursor
+fn put_merge_label(
+    func: &[u32],
+    work: &[u32],
+    out: &mut [u32],
+    c: Cursor,
+    m: usize,
+    first: u32,
+    w: Way,
+    k: usize,
+) -> Cursor
     requires { ⌜ Ready (now func) (now work) m first ⌝ }
     requires { ⌜ Known (now func) w × All Small (mergeLabels (wayMerge w)) ⌝ }
     requires { ⌜ k < length (mergeLabels (wayMerge w)) ⌝ }
@@ -59,7 +86,15 @@ fn put_merge_label(func: &[u32], work: &[u32], out: &mut [u32], c: Cursor, m: us
 }
 
 // Appends the merge of a way out: a select's has one label, a loop's two.
-fn put_merge(func: &[u32], work: &[u32], out: &mut [u32], c: Cursor, m: usize, first: u32, w: Way) -> Cursor
+fn put_merge(
+    func: &[u32],
+    work: &[u32],
+    out: &mut [u32],
+    c: Cursor,
+    m: usize,
+    first: u32,
+    w: Way,
+) -> Cursor
     requires { ⌜ Ready (now func) (now work) m first ⌝ }
     requires { ⌜ Known (now func) w × All Small (mergeLabels (wayMerge w)) ⌝ }
     ensures { λ r. ⌜ Put (now (out .entry)) c (mergeIn (funcOf (now (func .entry))) first (wayMerge w)) (now (out .exit)) r ⌝ }
@@ -69,16 +104,44 @@ fn put_merge(func: &[u32], work: &[u32], out: &mut [u32], c: Cursor, m: usize, f
         return c;
     }
     if count == 1 {
-        let a = put_front(func, out, c, opcode(InstKind::SelectionMerge), 0, 0, 0, Imms::Short(SELECTION_CONTROL, 0), 1);
+        let a = put_front(
+            func,
+            out,
+            c,
+            opcode(InstKind::SelectionMerge),
+            0,
+            0,
+            0,
+            Imms::Short(SELECTION_CONTROL, 0),
+            1,
+        );
         return put_merge_label(func, work, out, a, m, first, w, 0);
     }
-    let b = put_front(func, out, c, opcode(InstKind::LoopMerge), 0, 0, 0, Imms::Short(LOOP_CONTROL, 0), 2);
+    let b = put_front(
+        func,
+        out,
+        c,
+        opcode(InstKind::LoopMerge),
+        0,
+        0,
+        0,
+        Imms::Short(LOOP_CONTROL, 0),
+        2,
+    );
     let d = put_merge_label(func, work, out, b, m, first, w, 0);
     put_merge_label(func, work, out, d, m, first, w, 1)
 }
 
 // Appends a way out.
-fn put_term(func: &[u32], work: &[u32], out: &mut [u32], c: Cursor, m: usize, first: u32, w: Way) -> Cursor
+fn put_term(
+    func: &[u32],
+    work: &[u32],
+    out: &mut [u32],
+    c: Cursor,
+    m: usize,
+    first: u32,
+    w: Way,
+) -> Cursor
     requires { ⌜ Ready (now func) (now work) m first ⌝ }
     requires { ⌜ (0 < m) × Known (now func) w ⌝ }
     requires { ⌜ All Small (wayTerm (funcOf (now func)) w .targets) × All (Named (funcOf (now func))) (wayTerm (funcOf (now func)) w .ins) ⌝ }
@@ -86,13 +149,31 @@ fn put_term(func: &[u32], work: &[u32], out: &mut [u32], c: Cursor, m: usize, fi
 {
     let ins = way_ins(func, w);
     let ids = value_count(func, ins) + targets(func, w);
-    let a = put_front(func, out, c, way_opcode(func, w), way_attrs(func, w), 0, 0, way_imms(func, w), ids);
+    let a = put_front(
+        func,
+        out,
+        c,
+        way_opcode(func, w),
+        way_attrs(func, w),
+        0,
+        0,
+        way_imms(func, w),
+        ids,
+    );
     let b = put_values(func, work, out, a, m, first, ins);
     put_targets(func, work, out, b, m, first, w)
 }
 
 // Appends the merge and the way out of the i-th visited point.
-pub fn put_end(func: &[u32], work: &[u32], out: &mut [u32], c: Cursor, m: usize, first: u32, i: usize) -> Cursor
+pub fn put_end(
+    func: &[u32],
+    work: &[u32],
+    out: &mut [u32],
+    c: Cursor,
+    m: usize,
+    first: u32,
+    i: usize,
+) -> Cursor
     requires { ⌜ Ready (now func) (now work) m first ⌝ }
     requires { ⌜ i < m ⌝ }
     ensures { λ r. ⌜ Put (now (out .entry)) c (mergeIn (funcOf (now (func .entry))) first (blockAt (funcOf (now (func .entry))) i .term .merge) ++ termIn (funcOf (now (func .entry))) first (blockAt (funcOf (now (func .entry))) i .term)) (now (out .exit)) r ⌝ }

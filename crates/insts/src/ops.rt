@@ -82,11 +82,29 @@ fn op_front(
     let ty = op_type(func, o);
     let result = result_of(func, work, m, first, o, ty);
     let imms = op_imms(func, o);
-    put_front(func, out, c, op_opcode(func, o), op_attrs(func, o), ty, result, imms, ids)
+    put_front(
+        func,
+        out,
+        c,
+        op_opcode(func, o),
+        op_attrs(func, o),
+        ty,
+        result,
+        imms,
+        ids,
+    )
 }
 
 // Appends op o.
-fn put_op(func: &[u32], work: &[u32], out: &mut [u32], c: Cursor, m: usize, first: u32, o: usize) -> Cursor
+fn put_op(
+    func: &[u32],
+    work: &[u32],
+    out: &mut [u32],
+    c: Cursor,
+    m: usize,
+    first: u32,
+    o: usize,
+) -> Cursor
     requires { ⌜ Ready (now func) (now work) m first ⌝ }
     requires { ⌜ (0 < m) × (o < length (funcOf (now func) .ops)) ⌝ }
     ensures { λ r. ⌜ Put (now (out .entry)) c (opIn (funcOf (now (func .entry))) first o) (now (out .exit)) r ⌝ }
@@ -100,7 +118,15 @@ fn put_op(func: &[u32], work: &[u32], out: &mut [u32], c: Cursor, m: usize, firs
 }
 
 // Appends the ops of node n.
-fn put_node_ops(func: &[u32], work: &[u32], out: &mut [u32], c: Cursor, m: usize, first: u32, n: usize) -> Cursor
+fn put_node_ops(
+    func: &[u32],
+    work: &[u32],
+    out: &mut [u32],
+    c: Cursor,
+    m: usize,
+    first: u32,
+    n: usize,
+) -> Cursor
     requires { ⌜ Ready (now func) (now work) m first ⌝ }
     requires { ⌜ (0 < m) × (n < length (funcOf (now func) .nodes)) ⌝ }
     ensures { λ r. ⌜ Put (now (out .entry)) c (gather (opIn (funcOf (now (func .entry))) first) (blockOps (nodeOf (funcOf (now (func .entry))) n))) (now (out .exit)) r ⌝ }
@@ -116,7 +142,15 @@ fn put_node_ops(func: &[u32], work: &[u32], out: &mut [u32], c: Cursor, m: usize
 }
 
 // Appends the ops of the i-th visited point.
-pub fn put_ops(func: &[u32], work: &[u32], out: &mut [u32], c: Cursor, m: usize, first: u32, i: usize) -> Cursor
+pub fn put_ops(
+    func: &[u32],
+    work: &[u32],
+    out: &mut [u32],
+    c: Cursor,
+    m: usize,
+    first: u32,
+    i: usize,
+) -> Cursor
     requires { ⌜ Ready (now func) (now work) m first ⌝ }
     requires { ⌜ i < m ⌝ }
     ensures { λ r. ⌜ Put (now (out .entry)) c (gather (opIn (funcOf (now (func .entry))) first) (blockAt (funcOf (now (func .entry))) i .ops)) (now (out .exit)) r ⌝ }

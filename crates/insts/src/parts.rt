@@ -79,7 +79,15 @@ pub fn put_front(
     requires { ⌜ ids ≤ 65535 ⌝ }
     ensures { λ r. ⌜ Put (now (out .entry)) c (frontItems opcode attrs ty result (immsOf (funcOf (now (func .entry))) imms) ids) (now (out .exit)) r ⌝ }
 {
-    let a = put_head(out, c, opcode, attrs, ty, result, imm_count(func, imms) as u32);
+    let a = put_head(
+        out,
+        c,
+        opcode,
+        attrs,
+        ty,
+        result,
+        imm_count(func, imms) as u32,
+    );
     let b = put_imms(func, out, a, imms);
     put_word(out, b, ids as u32)
 }
@@ -95,7 +103,15 @@ pub fn id_of(func: &[u32], work: &[u32], m: usize, first: u32, v: Val) -> u32
 }
 
 // Appends the ids of a list of values.
-pub fn put_values(func: &[u32], work: &[u32], out: &mut [u32], c: Cursor, m: usize, first: u32, l: Values) -> Cursor
+pub fn put_values(
+    func: &[u32],
+    work: &[u32],
+    out: &mut [u32],
+    c: Cursor,
+    m: usize,
+    first: u32,
+    l: Values,
+) -> Cursor
     requires { ⌜ Ready (now func) (now work) m first ⌝ }
     requires { ⌜ 0 < m ⌝ }
     requires { ⌜ ValuesFit (funcOf (now func)) l × All (Named (funcOf (now func))) (valuesOf (funcOf (now func)) l) ⌝ }
@@ -120,7 +136,15 @@ pub fn label_of(work: &[u32], q: usize) -> u32
 }
 
 // Appends the labels of the targets of a way out.
-pub fn put_targets(func: &[u32], work: &[u32], out: &mut [u32], c: Cursor, m: usize, first: u32, w: Way) -> Cursor
+pub fn put_targets(
+    func: &[u32],
+    work: &[u32],
+    out: &mut [u32],
+    c: Cursor,
+    m: usize,
+    first: u32,
+    w: Way,
+) -> Cursor
     requires { ⌜ Ready (now func) (now work) m first ⌝ }
     requires { ⌜ Known (now func) w × All Small (wayTerm (funcOf (now func)) w .targets) ⌝ }
     ensures { λ r. ⌜ Put (now (out .entry)) c (labelsIn (funcOf (now (func .entry))) first (wayTerm (funcOf (now (func .entry))) w .targets)) (now (out .exit)) r ⌝ }

@@ -57,9 +57,10 @@ returns-3 : tie.Need-returns-3
 returns-3 c =
     let a = c .before .before .before .before .before .before .before .before .before .before .before .before .before .before .before .args in
     let p = c .before .before .before .before .before .before .before .before .before .before .before .before .before .before .before .pre in
-    let F = funcOf (a .func .now) in
-    (gives-ids F (a .first) (length (a .out .now)) (a .out .now) (ids-over F (a .first) (omega (arith, c .before .before .before .number .ensures .0))),
-    c .before .before .before .number .ensures .1 .1 .1 ∙ c .before .before .before .before .before .before .before .lay .ensures .1 .1 .1)
+    let F = funcOf (a .func .now) in (
+      gives-ids F (a .first) (length (a .out .now)) (a .out .now) (ids-over F (a .first) (omega (arith, c .before .before .before .number .ensures .0))),
+      c .before .before .before .number .ensures .1 .1 .1 ∙ c .before .before .before .before .before .before .before .lay .ensures .1 .1 .1,
+    )
 
 link-requires : tie.Need-link-requires
 link-requires c κs =
@@ -67,9 +68,13 @@ link-requires c κs =
     let p = c .before .before .before .before .before .before .before .before .before .before .before .before .before .before .before .before .pre in
     let F = funcOf (a .func .now) in
     let y = c .before .before .before .before .before .before .before .before .lay .ensures in
-    let s = c .before .before .before .before .number .ensures .1 .1 .0 in
-    (laid-kept (y .0) (λ x l h. s .before x h) (c .before .before .before .before .number .ensures .1 .1 .1), (p .0,
-    record { heads = λ x h. s .before x (omega arith) ∙ y .1 .1 .0 .heads x h; edges = λ x l h. s .after x l ∙ y .1 .1 .0 .edges x l h }))
+    let s = c .before .before .before .before .number .ensures .1 .1 .0 in (
+      laid-kept (y .0) (λ x l h. s .before x h) (c .before .before .before .before .number .ensures .1 .1 .1),
+      (
+        p .0,
+        record { heads = λ x h. s .before x (omega arith) ∙ y .1 .1 .0 .heads x h; edges = λ x l h. s .after x l ∙ y .1 .1 .0 .edges x l h },
+      ),
+    )
 
 written-requires : tie.Need-written-requires
 written-requires c κs =
@@ -77,11 +82,13 @@ written-requires c κs =
     let p = c .before .before .before .before .before .before .before .before .before .before .before .before .before .before .before .before .before .before .before .before .before .pre in
     let F = funcOf (a .func .now) in
     let held = ids-held F (a .first) (sym (c .before .before .before .before .before .before .before .before .before .before .before .before .before .before .before .before .before .first-fits .ensures) ∙ not-false _ (c .before .before .before .before .before .before .before .before .before .before .before .before .before .before .before .before .if1 .left)) (omega arith) (omega (arith, c .before .before .before .before .before .before .before .before .before .number .ensures .0)) in
-    let k = c .before .before .before .before .link .ensures in
-    (record {
-      ready = record { laid = k .1 .1 .0; stands = p .0; ids = ids-kept (c .before .before .before .before .before .before .before .before .before .number .ensures .1 .0) (λ x l h. k .1 .1 .1 .0 .between x (omega arith) h); low = omega arith };
-      linked = k .1 .0;
-    }, (held, c .before .before .before .before .before .before .before .before .before .number .ensures .0))
+    let k = c .before .before .before .before .link .ensures in (
+      record {
+        ready = record { laid = k .1 .1 .0; stands = p .0; ids = ids-kept (c .before .before .before .before .before .before .before .before .before .number .ensures .1 .0) (λ x l h. k .1 .1 .1 .0 .between x (omega arith) h); low = omega arith };
+        linked = k .1 .0;
+      },
+      (held, c .before .before .before .before .before .before .before .before .before .number .ensures .0),
+    )
 
 same-length-2 : tie.Need-same-length-2
 same-length-2 c = search needs
@@ -94,9 +101,10 @@ returns-4 c =
     let a = c .before .before .before .before .before .before .before .before .before .before .before .before .before .before .before .before .before .before .before .before .before .before .before .before .args in
     let p = c .before .before .before .before .before .before .before .before .before .before .before .before .before .before .before .before .before .before .before .before .before .before .before .before .pre in
     let F = funcOf (a .func .now) in
-    let held = ids-held F (a .first) (sym (c .before .before .before .before .before .before .before .before .before .before .before .before .before .before .before .before .before .before .before .before .first-fits .ensures) ∙ not-false _ (c .before .before .before .before .before .before .before .before .before .before .before .before .before .before .before .before .before .before .before .if1 .left)) (omega arith) (omega (arith, c .before .before .before .before .before .before .before .before .before .before .before .before .number .ensures .0)) in
-    (gives-same (c .before .before .written .ensures) (sym (past-ids F (a .first) (length (a .out .now)) held)),
-    c .before .before .before .before .before .before .before .link .ensures .1 .1 .1 .1 ∙ c .before .before .before .before .before .before .before .before .before .before .before .before .number .ensures .1 .1 .1 ∙ c .before .before .before .before .before .before .before .before .before .before .before .before .before .before .before .before .lay .ensures .1 .1 .1)
+    let held = ids-held F (a .first) (sym (c .before .before .before .before .before .before .before .before .before .before .before .before .before .before .before .before .before .before .before .before .first-fits .ensures) ∙ not-false _ (c .before .before .before .before .before .before .before .before .before .before .before .before .before .before .before .before .before .before .before .if1 .left)) (omega arith) (omega (arith, c .before .before .before .before .before .before .before .before .before .before .before .before .number .ensures .0)) in (
+      gives-same (c .before .before .written .ensures) (sym (past-ids F (a .first) (length (a .out .now)) held)),
+      c .before .before .before .before .before .before .before .link .ensures .1 .1 .1 .1 ∙ c .before .before .before .before .before .before .before .before .before .before .before .before .number .ensures .1 .1 .1 ∙ c .before .before .before .before .before .before .before .before .before .before .before .before .before .before .before .before .lay .ensures .1 .1 .1,
+    )
 
 pub emit-spec : {M : Type 1} → statement M
 emit-spec =

@@ -29,9 +29,13 @@ same-length c = search needs
 
 returns-2 : tie.Need-returns-2
 returns-2 c =
-    let e = c .before .before .blocks2 .ensures in
-    (laid-blocks (e .0) (e .1 .0), (blank-blocks (e .0) (e .1 .0),
-    (record { heads = λ x h. blank-before (e .0) (e .1 .0) x (omega arith); edges = λ x a b. blank-after (e .0) (e .1 .0) x (omega arith) }, e .1 .1)))
+    let e = c .before .before .blocks2 .ensures in (
+      laid-blocks (e .0) (e .1 .0),
+      (
+        blank-blocks (e .0) (e .1 .0),
+        (record { heads = λ x h. blank-before (e .0) (e .1 .0) x (omega arith); edges = λ x a b. blank-after (e .0) (e .1 .0) x (omega arith) }, e .1 .1),
+      ),
+    )
 
 pub lay-spec : {M : Type 1} → statement M
 lay-spec = tie.close (tie.spec region-total-requires returns blocks-requires same-length returns-2)

@@ -57,9 +57,13 @@ returns c =
     let q = c .before .before .before .before .before .before .before .parse .ensures in
     let v = c .before .before .before .before .before .before .before .parse .last .1 .0 in
     let e = ap (λ (x : Parsed). answerOf x v) (sym (c .before .p .given .1)) ∙ q .0 in
-    let k = early t (a .first) (length f) (length w) (length o) _ e in
-    (ap outcome k, (q .1 .0 ∙ ap (λ (x : answer.Parsed). funcAfter x f) (sym e) ∙ ap (λ (x : Answer). scratchAfter x f) k,
-    (q .1 .1 ∙ ap (λ (x : answer.Parsed). workAfter x w) (sym e) ∙ ap (λ (x : Answer). scratchAfter x w) k, ap (λ (x : Answer). outAfter x o) k)))
+    let k = early t (a .first) (length f) (length w) (length o) _ e in (
+      ap outcome k,
+      (
+        q .1 .0 ∙ ap (λ (x : answer.Parsed). funcAfter x f) (sym e) ∙ ap (λ (x : Answer). scratchAfter x f) k,
+        (q .1 .1 ∙ ap (λ (x : answer.Parsed). workAfter x w) (sym e) ∙ ap (λ (x : Answer). scratchAfter x w) k, ap (λ (x : Answer). outAfter x o) k),
+      ),
+    )
 
 same-length-3 : tie.Need-same-length-3
 same-length-3 c = search needs
@@ -84,11 +88,16 @@ returns-2 c =
     let g = c .before .before .before .before .before .before .from-tables .ensures in
     let k = tabled t (a .first) (length f) (length w) (length o) F e in
     let lf : length v ≡ length f = omega arith in
-    let lw : length (c .before .before .before .before .before .before .before .before .before .before .before .before .before .before .before .before .parse .last .1 .1 .0) ≡ length w = omega arith in
-    (g .0 .told ∙ ap outcome k,
-    (g .1 .0 ∙ ap (λ (n : ℕ). replicate n 0) lf ∙ sym (scratch-tables F (a .first) (length o) f) ∙ ap (λ (x : Answer). scratchAfter x f) k,
-    (g .1 .1 ∙ ap (λ (n : ℕ). replicate n 0) lw ∙ sym (scratch-tables F (a .first) (length o) w) ∙ ap (λ (x : Answer). scratchAfter x w) k,
-    g .0 .words ∙ ap (λ (x : Answer). outAfter x o) k)))
+    let lw : length (c .before .before .before .before .before .before .before .before .before .before .before .before .before .before .before .before .parse .last .1 .1 .0) ≡ length w = omega arith in (
+      g .0 .told ∙ ap outcome k,
+      (
+        g .1 .0 ∙ ap (λ (n : ℕ). replicate n 0) lf ∙ sym (scratch-tables F (a .first) (length o) f) ∙ ap (λ (x : Answer). scratchAfter x f) k,
+        (
+          g .1 .1 ∙ ap (λ (n : ℕ). replicate n 0) lw ∙ sym (scratch-tables F (a .first) (length o) w) ∙ ap (λ (x : Answer). scratchAfter x w) k,
+          g .0 .words ∙ ap (λ (x : Answer). outAfter x o) k,
+        ),
+      ),
+    )
 
 pub lift-function-spec : {M : Type 1} → statement M
 lift-function-spec =

@@ -25,14 +25,14 @@ id-of-requires c κs =
 
 phi-decl-requires : tie.Need-phi-decl-requires
 phi-decl-requires c κs =
-    let a = c .before .before .before .before .before .args in let p = c .before .before .before .before .before .pre in (ready-visited (p .0) (a .i) (p .1 .1 .0 .0), p .1 .1 .0)
+    let a = c .before .before .before .before .before .args in let p = c .before .before .before .before .before .pre in (ready-visited (p .0) (a .i) (p .1 .1 .0 .0), (p .1 .1 .0 .0, omega (arith, p .1 .1 .0 .1)))
 
 put-front-requires : tie.Need-put-front-requires
 put-front-requires c κs =
     let p = c .before .before .before .before .before .before .before .before .pre in (p .0 .laid .tables, (tt, omega (arith, p .1 .1 .1 .1 .1)))
 
 put-pairs-requires : tie.Need-put-pairs-requires
-put-pairs-requires c κs = let p = c .before .before .before .before .before .before .before .before .before .before .before .before .pre in (p .0, (p .1 .0, (p .1 .1 .0, p .1 .1 .1 .0)))
+put-pairs-requires c κs = let p = c .before .before .before .before .before .before .before .before .before .before .before .before .pre in (p .0, (p .1 .0, ((p .1 .1 .0 .0, omega (arith, p .1 .1 .0 .1)), p .1 .1 .1 .0)))
 
 returns : tie.Need-returns
 returns c =

@@ -39,9 +39,13 @@ put-merge-requires c κs =
     let p = c .before .before .before .before .before .pre in
     let F = funcOf (a .func .now) in
     let x = c .before .way .ensures in
-    let k = ready-visited (p .0) (a .i) (p .1) in
-    (p .0, (record { tables = k .tables; walkable = k .walkable; fits = x .fits },
-    subst (λ (g : Merge). All Small (mergeLabels g)) (ap (λ (t : Terminator). t .merge) (x .is) ∙ way-merge F (c .before .way .result)) (merges-small k (a .i) (p .1))))
+    let k = ready-visited (p .0) (a .i) (p .1) in (
+      p .0,
+      (
+        record { tables = k .tables; walkable = k .walkable; fits = x .fits },
+        subst (λ (g : Merge). All Small (mergeLabels g)) (ap (λ (t : Terminator). t .merge) (x .is) ∙ way-merge F (c .before .way .result)) (merges-small k (a .i) (p .1)),
+      ),
+    )
 
 put-term-requires : tie.Need-put-term-requires
 put-term-requires c κs =
@@ -49,10 +53,16 @@ put-term-requires c κs =
     let p = c .before .before .before .before .before .before .before .before .before .pre in
     let F = funcOf (a .func .now) in
     let x = c .before .before .before .before .before .way .ensures in
-    let k = ready-visited (p .0) (a .i) (p .1) in
-    (p .0, ((omega (arith, p .1), record { tables = k .tables; walkable = k .walkable; fits = x .fits }),
-    (subst (λ (t : Terminator). All Small (t .targets)) (x .is) (targets-small k (a .i) (p .1)),
-    subst (λ (t : Terminator). All (Named F) (t .ins)) (x .is) (ins-named F (refers F (p .0 .stands .passes .references)) (k .walkable) (a .i) (omega (arith, p .1, k .count))))))
+    let k = ready-visited (p .0) (a .i) (p .1) in (
+      p .0,
+      (
+        (omega (arith, p .1), record { tables = k .tables; walkable = k .walkable; fits = x .fits }),
+        (
+          subst (λ (t : Terminator). All Small (t .targets)) (x .is) (targets-small k (a .i) (p .1)),
+          subst (λ (t : Terminator). All (Named F) (t .ins)) (x .is) (ins-named F (refers F (p .0 .stands .passes .references)) (k .walkable) (a .i) (omega (arith, p .1, k .count))),
+        ),
+      ),
+    )
 
 same-length : tie.Need-same-length
 same-length c = search needs

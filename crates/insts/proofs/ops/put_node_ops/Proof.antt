@@ -53,9 +53,14 @@ put-op-requires c κs =
     let a = c .before .before .before .before .before .before .before .before .args in
     let p = c .before .before .before .before .before .before .before .before .pre in
     let F = funcOf (a .func .now) in
-    let is = blockOps (nodeOf F (a .n)) in
-    (p .0, (p .1 .0, subst (λ (o : ℕ). o < length (F .ops)) (sym (c .node-op .ensures))
-    (node-ops F (refers F (p .0 .stands .passes .references)) (a .n) _ (in-getD is (c .before .before .before .loop .k) 0 (omega (arith, c .before .before .before .before .node-op-count .ensures))))))
+    let is = blockOps (nodeOf F (a .n)) in (
+      p .0,
+      (
+        p .1 .0,
+        subst (λ (o : ℕ). o < length (F .ops)) (sym (c .node-op .ensures))
+            (node-ops F (refers F (p .0 .stands .passes .references)) (a .n) _ (in-getD is (c .before .before .before .loop .k) 0 (omega (arith, c .before .before .before .before .node-op-count .ensures)))),
+      ),
+    )
 
 add-k : tie.Need-add-k Inv-loop μ-loop
 add-k c =

@@ -19,7 +19,7 @@ edge-value-requires c κs =
     let a = c .before .before .before .args in
     let p = c .before .before .before .pre in (
       ready-visited (p .0) (a .i) (p .1 .0 .0),
-      ((p .1 .0 .0, from-low (p .0) (a .i) (a .j) (p .1 .0 .0) (p .1 .0 .1) (p .1 .1)), value-low (p .0) (a .i) (a .j) (p .1 .0 .0) (p .1 .0 .1) (p .1 .1)),
+      ((p .1 .0 .0, from-low (p .0) (a .i) (a .j) (p .1 .0 .0) (p .1 .0 .1) (p .1 .1)), omega (arith, value-low (p .0) (a .i) (a .j) (p .1 .0 .0) (p .1 .0 .1) (p .1 .1))),
     )
 
 id-of-requires : tie.Need-id-of-requires

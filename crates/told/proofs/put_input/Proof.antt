@@ -1,0 +1,102 @@
+use mathlib.Core.Path.{sym, ap, subst, _∙_}
+use lib.ListN.{length}
+use lib.Seq.{length-take-le}
+use native.Mathlib.Omega.{arith}
+use borrow.Author.Needs.{needs}
+use Rattle.emitter.specs.declared.Lifted.{Lifted}
+use Rattle.printed.specs.Put.{Put, put-same}
+use Rattle.printed.specs.Shown.{refusedBytes}
+use mathlib.Core.List.{List}
+use Prim.Native.Nat.{ℕ, _+_, _*_, _≤_}
+use Rattle.lifting.specs.Answer.{answer}
+use Rattle.printed.proofs.Laws.{tail-part}
+use Rattle.told.specs.Input.{answerBytes, bad-line, good-line, inputBytes, line-low}
+use Rattle.told.specs.Room.{input-room}
+use Rattle.told.proofs.put_input.Statement.{statement}
+use Rattle.told.proofs.put_input.Tie as tie
+use Rattle.told.proofs.put_input.Reads as reads
+use Rattle.told.proofs.put_input.Lts as lts
+use Rattle.printed.proofs.first_line.Reads as first-line-reads
+use Rattle.printed.proofs.refused.Reads as refused-reads
+use Rattle.told.proofs.put_text.Reads as put-text-reads
+
+first-line-requires : tie.Need-first-line-requires
+first-line-requires c κs = search needs
+
+enum-known-first : tie.Need-enum-known-first
+enum-known-first c = search needs
+
+enum-told : tie.Need-enum-told
+enum-told c = search needs
+
+refused-requires : tie.Need-refused-requires
+refused-requires c κs = search needs
+
+same-length : tie.Need-same-length
+same-length c = search needs
+
+low : (out : ℕ) (input : List ℕ) (func work : ℕ) {w u : List ℕ} {n : ℕ} → Put w 0 (inputBytes input func work out) u n → n ≤ 12 * out + 21
+low out input func work p = omega (arith, p .place, input-room out input func work)
+
+returns : tie.Need-returns
+returns c =
+    let a = c .before .before .before .before .before .before .before .before .before .before .before .before .args in
+    let p = put-same (c .before .before .refused .ensures) (bad-line (a .input .now) (length (a .func .now)) (length (a .work .now)) (length (a .out .now)) _ (c .before .before .before .before .before .before .first-line .ensures) (c .before .before .before .before .enum-told .given .1)) in
+    (p, low (length (a .out .now)) (a .input .now) (length (a .func .now)) (length (a .work .now)) p)
+
+sub-put-text : tie.Need-sub-put-text
+sub-put-text c =
+    let a = c .before .before .before .before .before .before .before .before .before .before .args in
+    line-low (a .input .now) (length (a .func .now)) (length (a .work .now)) (length (a .out .now)) _ (c .before .before .before .before .first-line .ensures) (c .before .before .first .given .1)
+
+part-put-text-start : tie.Need-part-put-text-start
+part-put-text-start c =
+    let a = c .before .before .before .before .before .before .before .before .before .before .args in
+    let h = line-low (a .input .now) (length (a .func .now)) (length (a .work .now)) (length (a .out .now)) _ (c .before .before .before .before .first-line .ensures) (c .before .before .first .given .1) in search needs
+
+part-put-text-end : tie.Need-part-put-text-end
+part-put-text-end c = search needs
+
+put-text-requires : tie.Need-put-text-requires
+put-text-requires c κs = search needs
+
+same-length-2 : tie.Need-same-length-2
+same-length-2 c = search needs
+
+same-length-3 : tie.Need-same-length-3
+same-length-3 c = search needs
+
+same-length-4 : tie.Need-same-length-4
+same-length-4 c = search needs
+
+same-length-5 : tie.Need-same-length-5
+same-length-5 c = search needs
+
+returns-2 : tie.Need-returns-2
+returns-2 c =
+    let a = c .before .before .before .before .before .before .before .before .before .before .before .before .before .before .before .before .before .before .before .before .before .before .before .args in
+    let k = c .before .before .before .before .before .before .before .before .before .before .before .before .before .before .before .first .given .0 .1 .0 in
+    let p = put-same (c .before .before .before .before .before .before .before .before .put-text .ensures)
+    (ap (λ (t : List ℕ). answerBytes (answer t (c .before .before .before .before .before .before .before .before .before .before .before .before .before .before .before .first .given .0 .0) (length (a .func .now)) (length (a .work .now)) (length (a .out .now)))) (tail-part k (a .input .now))
+    ∙ good-line (a .input .now) (length (a .func .now)) (length (a .work .now)) (length (a .out .now)) _ (c .before .before .before .before .before .before .before .before .before .before .before .before .before .before .before .before .before .first-line .ensures) (c .before .before .before .before .before .before .before .before .before .before .before .before .before .before .before .first .given .1)) in
+    (p, low (length (a .out .now)) (a .input .now) (length (a .func .now)) (length (a .work .now)) p)
+
+pub put-input-spec : {M : Type 1} → statement M
+put-input-spec =
+    tie.close
+    (tie.spec
+    first-line-requires
+    enum-known-first
+    enum-told
+    refused-requires
+    same-length
+    returns
+    sub-put-text
+    part-put-text-start
+    part-put-text-end
+    put-text-requires
+    same-length-2
+    same-length-3
+    same-length-4
+    same-length-5
+    returns-2)

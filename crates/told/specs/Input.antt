@@ -1,0 +1,78 @@
+-- What the program prints for an input: the list or the refusal of the text behind the line `(first N)`. Assumes nothing.
+--     bad-line, good-line, line-low  by the first line
+--     lifted-bytes, lifted-stands    what the entry tells and leaves in the output slice gives these bytes
+use mathlib.Core.Path.{_≡_, refl, sym, ap, subst, _∙_}
+use mathlib.Core.List.{List, _++_}
+use mathlib.Core.Option.{Option, none, some}
+use Prim.Native.Nat.{ℕ, _≤_}
+use native.Mathlib.Omega.{arith}
+use lib.ListN.{drop, length, length-append, take}
+use Rattle.lifting.specs.Words.{listFrom}
+use Rattle.lifting.specs.Answer.{Answer, answer, listed, outAfter, refused}
+use Rattle.emitter.specs.declared.Lifted.{Lifted}
+use Rattle.emitter.specs.declared.Lifted.the-variants.{Refused, Whole}
+use Rattle.emitter.specs.Lift.{causeNumber, outcome, refuses, told}
+use Rattle.emitter.specs.Demand3.{written-list, written-low}
+use Rattle.printed.specs.Shown.{listBytes, refusedBytes}
+use Rattle.cursor.specs.Read.{Moves, Reads, rest}
+use Rattle.printed.specs.declared.First.{First}
+use Rattle.printed.specs.declared.First.the-variants.{At, Bad}
+use Rattle.printed.specs.Opening.{firstLine, firstOf}
+
+-- It prints opcode, attributes, result type, result id, immediates, ids. A refusal prints `(refused N)`.
+abbrev pub answerBytes : Answer → List ℕ
+answerBytes (listed ws next) = listBytes (listFrom ws)
+answerBytes (refused n) = refusedBytes n
+
+-- a bad first line is refusal 2. The text starts after that line. The numbers are the lengths of the function, work and output slice.
+abbrev pub lineBytes : Option (ℕ × List ℕ) → ℕ → ℕ → ℕ → List ℕ
+lineBytes none func work out = refusedBytes 2
+lineBytes (some x) func work out = answerBytes (answer (x .1) (x .0) func work out)
+
+unfoldable pub inputBytes : List ℕ → ℕ → ℕ → ℕ → List ℕ
+unfolding firstLine
+inputBytes input func work out = lineBytes (firstLine .read input) func work out
+
+-- what the entry told, with the words of the output slice
+abbrev pub liftedBytes : Lifted → List ℕ → List ℕ
+liftedBytes (Whole n next) out = listBytes (listFrom (take n out))
+liftedBytes (Refused c) out = refusedBytes (causeNumber c)
+
+abbrev pub Stands : Lifted → List ℕ → Type 0
+Stands (Whole n next) out = n ≤ length out
+Stands (Refused c) out = Unit {0}
+
+refused-of : (a : Answer) (n : ℕ) → refuses n ≡ outcome a → a ≡ refused n
+refused-of (listed ws k) n e = absurd (let z : _≡_ {A = ℕ} 0 1 = cc in omega arith)
+refused-of (refused k) n e = let z : k ≡ n = cc in ap refused z
+
+module _ (text func work out exit : List ℕ) (first : ℕ) where
+  abbrev given : Answer
+  given = answer text first (length func) (length work) (length out)
+
+  pub lifted-bytes : (r : Lifted) → told r ≡ outcome given → exit ≡ outAfter given out → liftedBytes r exit ≡ answerBytes given
+  lifted-bytes (Whole n next) says stands =
+      let l = written-list text func work out exit first n next says stands in
+      ap (λ (ws : List ℕ). listBytes (listFrom ws)) (l .2) ∙ sym (ap answerBytes (l .1))
+  lifted-bytes (Refused c) says stands = sym (ap answerBytes (refused-of given (causeNumber c) says))
+
+  pub lifted-stands : (r : Lifted) → told r ≡ outcome given → exit ≡ outAfter given out → Stands r exit
+  lifted-stands (Whole n next) says stands = written-low text func work out exit first n next says stands
+  lifted-stands (Refused c) says stands = tt
+
+-- ---- the first line
+
+module _ (input : List ℕ) (func work out : ℕ) (r : First) (reads : Reads (firstLine .read) input 0 (firstOf r)) where
+  line-is : firstLine .read input ≡ rest input (firstOf r)
+  line-is = reads .is
+
+  pub bad-line : r ≡ Bad → refusedBytes 2 ≡ inputBytes input func work out
+  unfolding inputBytes
+  bad-line e = sym (ap (λ (o : Option (ℕ × List ℕ)). lineBytes o func work out) (line-is ∙ ap (λ (x : First). rest input (firstOf x)) e))
+
+  pub good-line : {n k : ℕ} → r ≡ At n k → answerBytes (answer (drop k input) n func work out) ≡ inputBytes input func work out
+  unfolding inputBytes
+  good-line e = sym (ap (λ (o : Option (ℕ × List ℕ)). lineBytes o func work out) (line-is ∙ ap (λ (x : First). rest input (firstOf x)) e))
+
+  pub line-low : {n k : ℕ} → r ≡ At n k → k ≤ length input
+  line-low {n} {k} e = subst (λ (x : First). Moves input 0 (firstOf x)) e (reads .moves) .fits

@@ -1,0 +1,3 @@
+-- What the programs print for an input.
+pub mod Input
+pub mod Room

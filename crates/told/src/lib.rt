@@ -1,0 +1,65 @@
+// What the programs `lift` and `replay` print for an input, a line `(first N)` and a text.
+use emitter::Lifted;
+use emitter::cause_number;
+use emitter::lift_function;
+use printed::First;
+use printed::first_line;
+use printed::list;
+use printed::refused;
+ghost use Prim.Native.Nat.{_+_, _*_, _≤_};
+ghost use lib.ListN.{length};
+ghost use Rattle.lifting.specs.Answer.{answer};
+ghost use Rattle.printed.specs.Put.{Put};
+ghost use Rattle.told.specs.Input.{Stands, answerBytes, inputBytes, liftedBytes};
+
+// The lines of the list in the output slice, or the refusal's line.
+fn put_lifted(bytes: &mut [u8], r: Lifted, out: &[u32]) -> usize
+    requires { ⌜ Stands r (now out) ⌝ }
+    ensures { λ n. ⌜ Put (now (bytes .entry)) 0 (liftedBytes r (now (out .entry))) (now (bytes .exit)) n ⌝ }
+{
+    match r {
+        Lifted::Whole(n, _) => list(&out[..n], bytes),
+        Lifted::Refused(c) => refused(cause_number(c), bytes),
+    }
+}
+
+// The text behind the first line.
+fn put_text(
+    bytes: &mut [u8],
+    text: &[u8],
+    first: u32,
+    func: &mut [u32],
+    work: &mut [u32],
+    out: &mut [u32],
+) -> usize
+    ensures { λ n. ⌜ Put (now (bytes .entry)) 0 (answerBytes (answer (now (text .entry)) first (length (now (func .entry))) (length (now (work .entry))) (length (now (out .entry))))) (now (bytes .exit)) n ⌝ }
+{
+    let r = lift_function(text, first, func, work, out);
+    put_lifted(bytes, r, out)
+}
+
+// The bytes that are printed for an input stand in `bytes`: how many. Those for which there is no room are counted, not stored.
+pub fn put_input(
+    bytes: &mut [u8],
+    input: &[u8],
+    func: &mut [u32],
+    work: &mut [u32],
+    out: &mut [u32],
+) -> usize
+    ensures { λ n. ⌜ Put (now (bytes .entry)) 0 (inputBytes (now (input .entry)) (length (now (func .entry))) (length (now (work .entry))) (length (now (out .entry)))) (now (bytes .exit)) n ⌝ }
+    ensures { λ n. ⌜ n ≤ 12 * length (now (out .entry)) + 21 ⌝ }
+{
+    let First::At(first, at) = first_line(input) else {
+        return refused(2, bytes);
+    };
+    put_text(bytes, &input[at..], first, func, work, out)
+}
+
+// Prints the list of an input, or its refusal.
+pub fn tell(input: &[u8], func: &mut [u32], work: &mut [u32]) {
+    let mut out = [0u32; 16384];
+    // Twelve bytes for each word of the output slice, and more than a refusal's line has.
+    let mut bytes = [0u8; 196640];
+    let n = put_input(&mut bytes, input, func, work, &mut out);
+    io::write_all(1, &bytes[..n]);
+}
