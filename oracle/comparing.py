@@ -9,8 +9,11 @@ HERE = os.path.dirname(os.path.abspath(__file__))
 END = b"%%\n"
 
 
-def build():
-    subprocess.run(["cargo", "build", "--release", "--offline", "-q", "-j1"], cwd=HERE, check=True)
+def build(*packages):
+    """All but what links the static library, or the packages named."""
+    chosen = [part for package in packages for part in ("-p", package)]
+    command = ["cargo", "build", "--release", "--offline", "-q", "-j1", *chosen]
+    subprocess.run(command, cwd=HERE, check=True)
 
 
 def program(name):

@@ -47,6 +47,16 @@ struct IdsRanOut;
 /// The instructions of the function and the next free id, or nothing where ids exceed 32 bits.
 /// It panics where the Rust does.
 pub fn lift(module: &Module, named: &Named<'_>, first: spv::Id) -> Option<(Vec<Inst>, u64)> {
+    let (insts, next) = insts(module, named, first)?;
+    Some((insts.into_iter().map(|(inst, attrs)| Inst::new(inst, attrs)).collect(), next))
+}
+
+/// The same as the Rust's own instructions.
+pub(crate) fn insts(
+    module: &Module,
+    named: &Named<'_>,
+    first: spv::Id,
+) -> Option<(Vec<(spv::InstWithIds, AttrSet)>, u64)> {
     let mut collector = NeedsIdsCollector {
         cx: module.cx_ref(),
         module,
@@ -84,8 +94,18 @@ pub fn lift(module: &Module, named: &Named<'_>, first: spv::Id) -> Option<(Vec<I
         })
         .ok()?;
     assert!(given.next().is_none());
-    let insts = module.insts_of(&ids, named.func);
-    Some((insts.into_iter().map(|(inst, attrs)| Inst::new(inst, attrs)).collect(), next))
+    Some((module.insts_of(&ids, named.func), next))
+}
+
+/// How many blocks `from_func_decl` keeps of the function, with ids from the first on.
+pub fn blocks(module: &Module, func: Func, first: spv::Id) -> usize {
+    let mut next = first;
+    let lifting = FuncLifting::from_func_decl(module.cx_ref(), &module.funcs[func], || {
+        let id = next;
+        next = next.checked_add(1).ok_or(IdsRanOut)?;
+        Ok::<_, IdsRanOut>(id)
+    });
+    lifting.ok().expect("ids fit 32 bits").blocks.len()
 }
 
 impl Module {

@@ -51,6 +51,34 @@ pub fn answer(input: &[u8]) -> Answer {
     }
 }
 
+/// A function of the Rust, to be lifted any number of times.
+pub struct Ready(Module, Function);
+
+impl Ready {
+    /// The function of an input of the program `lift`, if it is one whose walk ends.
+    pub fn new(input: &[u8]) -> Option<Self> {
+        let (module, function) = read(input)?;
+        (!function.endless).then_some(Self(module, function))
+    }
+
+    /// How many blocks the Rust's `from_func_decl` keeps.
+    pub fn blocks(&self) -> usize {
+        crate::lift::blocks(&self.0, self.1.func, self.1.first)
+    }
+
+    /// The ids that the text names.
+    pub fn named(&self) -> Named<'_> {
+        self.1.named(&self.0)
+    }
+
+    /// How many instructions the Rust lists: `alloc_ids`, which calls `from_func_decl`, and
+    /// `to_inst_and_attrs` for each.
+    pub fn lift(&self, named: &Named<'_>) -> usize {
+        let (insts, _) = crate::lift::insts(&self.0, named, self.1.first).expect("ids fit 32 bits");
+        std::hint::black_box(insts).len()
+    }
+}
+
 /// The first id and every id that the text names.
 struct Function {
     first: spv::Id,

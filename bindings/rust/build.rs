@@ -1,0 +1,19 @@
+//! Links the archive that `rt staticlib sighvona` leaves in the repository's `target/staticlib`, or
+//! one in the folder that `SIGHVONA_LIB_DIR` names.
+
+use std::path::{Path, PathBuf};
+
+fn main() {
+    println!("cargo::rerun-if-env-changed=SIGHVONA_LIB_DIR");
+    let folder = match std::env::var_os("SIGHVONA_LIB_DIR") {
+        Some(folder) => PathBuf::from(folder),
+        None => Path::new(env!("CARGO_MANIFEST_DIR")).join("../../target/staticlib"),
+    };
+    let archive = folder.join("libsighvona.a");
+    if !archive.exists() {
+        println!("cargo::error={} is missing: run `rt staticlib sighvona`", archive.display());
+    }
+    println!("cargo::rustc-link-search=native={}", folder.display());
+    println!("cargo::rustc-link-lib=static=sighvona");
+    println!("cargo::rerun-if-changed={}", archive.display());
+}

@@ -1,0 +1,133 @@
+//! `drive`: is the static library's answer the Rust's?
+//!
+//! Reads cases, each ended by a line `%%`, and gives every one to the library, more than once and
+//! with slices of several lengths, all filled with noise. Looked at are the refusal or the list,
+//! the word count, the next id, and every word of the three slices after the call. The list must
+//! be the Rust's, refusal 10 stand where the Rust panics, and the other refusals, which the Rust
+//! does not have, where the reference `refer` has them.
+//!
+//! Prints the counts and the shortest differences. A first line is the program `lift`'s and not
+//! the library's, so cases with a bad one are only counted. Exit status 0 if nothing differs.
+
+mod call;
+
+use call::Library;
+use refer::read::Cursor;
+use sighvona::SCRATCH_WORDS;
+use std::collections::BTreeMap;
+use std::io::{self, BufRead};
+
+/// What a case's answer must be.
+pub enum Expected {
+    List { words: Vec<u32>, next: u32 },
+    Refused(u32),
+}
+
+/// How many differences are shown.
+const SHOWN: usize = 3;
+
+fn main() -> io::Result<()> {
+    std::panic::set_hook(Box::new(|_| {}));
+    // The Rust's region walk calls itself once for each level of the text.
+    let found = std::thread::Builder::new().stack_size(1 << 28).spawn(run)?.join();
+    std::process::exit(found.expect("the comparing itself does not panic")?.into())
+}
+
+/// Whether something differs.
+fn run() -> io::Result<bool> {
+    let mut library = Library::new();
+    let mut counts = BTreeMap::new();
+    let mut differences = vec![];
+    let mut input = io::stdin().lock();
+    let (mut case, mut line) = (vec![], vec![]);
+    while input.read_until(b'\n', &mut line)? > 0 {
+        if line == b"%%\n" {
+            match judge(&mut library, &case) {
+                Ok(kind) => *counts.entry(kind).or_insert(0_usize) += 1,
+                Err(difference) => differences.push((case.clone(), difference)),
+            }
+            case.clear();
+        } else {
+            case.extend_from_slice(&line);
+        }
+        line.clear();
+    }
+    for (kind, count) in &counts {
+        println!("  {count:8} {kind}");
+    }
+    println!("  {:8} calls", library.calls);
+    differences.sort_by_key(|(case, _)| case.len());
+    for (case, difference) in differences.iter().take(SHOWN) {
+        println!("difference: {difference}, input:\n{}", String::from_utf8_lossy(case));
+    }
+    println!("  {:8} differences", differences.len());
+    Ok(!differences.is_empty() || !case.is_empty())
+}
+
+/// The kind of a case's answer, or how an answer differs.
+fn judge(library: &mut Library, case: &[u8]) -> Result<String, String> {
+    let mut cursor = Cursor(case);
+    let Some(first) = cursor.first() else { return Ok("a bad first line".to_owned()) };
+    let text = cursor.0;
+    let (full, more) = (SCRATCH_WORDS, SCRATCH_WORDS + 1 + case.len() % 300);
+    let expected = expected(case)?;
+    // Refusal 8 comes before all else, and 11 after all else.
+    for lengths in [[full - 1, full, full], [full, full - 1, full], [0, more, 0]] {
+        library.lift(text, first, lengths, &Expected::Refused(8))?;
+    }
+    library.read(text, full - 1, more, 8)?;
+    match &expected {
+        Expected::List { words, .. } => {
+            let length = words.len();
+            library.lift(text, first, [more, full, length], &expected)?;
+            let short = [full, more, length - 1];
+            library.lift(text, first, short, &Expected::Refused(11))?;
+            library.read(text, full, full, 0)?;
+            if length > full {
+                library.lift(text, first, [full; 3], &Expected::Refused(11))?;
+                return Ok("longer lists equal, refused with 11 for 16,384 words".to_owned());
+            }
+            library.lift(text, first, [full; 3], &expected)?;
+            Ok("lists equal".to_owned())
+        }
+        Expected::Refused(number) => {
+            library.lift(text, first, [full; 3], &expected)?;
+            library.lift(text, first, [more, full, 0], &expected)?;
+            library.read(text, full, full, if *number < 9 { *number } else { 0 })?;
+            Ok(format!("refused {number:2}"))
+        }
+    }
+}
+
+/// What the Rust and the reference say, if they agree with each other.
+fn expected(case: &[u8]) -> Result<Expected, String> {
+    let number = match refer::answer(case) {
+        refer::Answer::List { .. } => 0,
+        refer::Answer::Refused(number) => number,
+    };
+    if !matches!(number, 0 | 10 | 11) {
+        return Ok(Expected::Refused(number));
+    }
+    match (number, spirt::text::answer(case)) {
+        (10, spirt::text::Answer::Panicked) => Ok(Expected::Refused(10)),
+        (0 | 11, spirt::text::Answer::List { insts, next }) => {
+            let words: Vec<u32> = insts.iter().flat_map(words).collect();
+            let next = u32::try_from(next).map_err(|_| "the Rust's next id has over 32 bits")?;
+            match words.len() > SCRATCH_WORDS {
+                long if long == (number == 11) => Ok(Expected::List { words, next }),
+                _ => Err("the reference and the Rust have lists of other lengths".to_owned()),
+            }
+        }
+        _ => Err(format!("the reference says {number}, and the Rust something else")),
+    }
+}
+
+/// An instruction's words in document 01's list.
+fn words(inst: &spirt::lift::Inst) -> Vec<u32> {
+    let mut words = vec![inst.opcode.into(), inst.attrs, inst.result_type, inst.result];
+    words.push(inst.imms.len() as u32);
+    words.extend(inst.imms.iter().flat_map(|&(kind, operand, word)| [kind, operand.into(), word]));
+    words.push(inst.ids.len() as u32);
+    words.extend(&inst.ids);
+    words
+}

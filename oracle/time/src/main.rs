@@ -1,0 +1,89 @@
+//! `time CASE..`: nanoseconds that a call takes, for each case, a file with an input of `lift`:
+//! of the library's reader, when it refuses at the first byte and so only clears its slices; of
+//! the reader; of the whole call, from text to words; of the Rust's `from_func_decl`; and of the
+//! Rust's ids, `from_func_decl` and `to_inst_and_attrs`, which make its list.
+//!
+//! The first three are functions of the static library, on the case's text and slices that stay
+//! the same. The others start from the Rust's own data, which are made before, and drop what they
+//! make. The five take turns, and the least of `ROUNDS` rounds counts.
+//!
+//! `time --only NAME CASE` calls one of them for ten seconds, for a profiler to look at.
+
+use refer::read::Cursor;
+use sighvona::{SCRATCH_WORDS, lift_in, read_in};
+use spirt::text::Ready;
+use std::hint::black_box;
+use std::time::{Duration, Instant};
+
+const ROUNDS: usize = 30;
+const ROUND: Duration = Duration::from_millis(50);
+const ALONE: Duration = Duration::from_secs(10);
+
+/// What is timed: its name, and a call.
+type Timed<'a> = (&'a str, Box<dyn FnMut() + 'a>);
+
+/// Nanoseconds for a call, over the calls of some time.
+fn round(call: &mut dyn FnMut(), lasts: Duration) -> f64 {
+    let mut calls = 0;
+    let begun = Instant::now();
+    while begun.elapsed() < lasts {
+        (0..20).for_each(|_| call());
+        calls += 20;
+    }
+    begun.elapsed().as_secs_f64() * 1e9 / f64::from(calls)
+}
+
+/// Three slices for as long as the function is called.
+fn lent<R>(called: impl Fn([&mut [u32]; 3]) -> R) -> impl FnMut() {
+    let mut slices = [const { [0; SCRATCH_WORDS] }; 3].map(Box::new);
+    move || {
+        black_box(called(slices.each_mut().map(|slice| &mut slice[..])));
+    }
+}
+
+fn time(path: &str, only: Option<&str>) {
+    let case = std::fs::read(path).expect("a case can be read");
+    let mut cursor = Cursor(&case);
+    let first = cursor.first().expect("a case has a first line");
+    let text = cursor.0;
+    let ready = Ready::new(&case).expect("the Rust has such a function");
+    let named = ready.named();
+    let mut slices = [const { [0; SCRATCH_WORDS] }; 3].map(Box::new);
+    let [func, work, out] = slices.each_mut();
+    let lifted = lift_in(text, first, &mut func[..], &mut work[..], &mut out[..]);
+    let words = lifted.unwrap_or_else(|refusal| panic!("{path}: {refusal}")).words;
+    let (blocks, insts) = (ready.blocks(), ready.lift(&named));
+    println!("{path}: {} bytes, {blocks} blocks, {insts} instructions, {words} words", text.len());
+
+    let mut timed: [Timed<'_>; 5] = [
+        ("clearing", Box::new(lent(|[f, w, _]| read_in(black_box(b"x"), f, w)))),
+        ("read", Box::new(lent(|[f, w, _]| read_in(black_box(text), f, w)))),
+        ("lift", Box::new(lent(|[f, w, o]| lift_in(black_box(text), first, f, w, o)))),
+        ("from_func_decl", Box::new(|| _ = black_box(black_box(&ready).blocks()))),
+        ("rust", Box::new(|| _ = black_box(black_box(&ready).lift(&named)))),
+    ];
+    if let Some(only) = only {
+        let (_, call) = timed.iter_mut().find(|(name, _)| *name == only).expect("a known name");
+        println!("  {only:18}{:9.0} ns", round(call, ALONE));
+        return;
+    }
+    let mut least = [f64::INFINITY; 5];
+    for _ in 0..ROUNDS {
+        for ((_, call), least) in timed.iter_mut().zip(&mut least) {
+            *least = least.min(round(call, ROUND));
+        }
+    }
+    let print = |name: &str, took: f64| {
+        println!("  {name:18}{took:9.0} ns{:8.2} ns a byte", took / text.len() as f64);
+    };
+    timed.iter().zip(least).for_each(|((name, _), took)| print(name, took));
+    print("lift less read", least[2] - least[1]);
+}
+
+fn main() {
+    let args: Vec<String> = std::env::args().skip(1).collect();
+    match &args[..] {
+        [option, name, path] if option == "--only" => time(path, Some(name)),
+        paths => paths.iter().for_each(|path| time(path, None)),
+    }
+}
