@@ -1,11 +1,12 @@
 //! `time CASE..`: nanoseconds that a call takes, for each case, a file with an input of `lift`:
 //! of the library's reader, when it refuses at the first byte and so only clears its slices; of
 //! the reader; of the whole call, from text to words; of the Rust's `from_func_decl`; and of the
-//! Rust's ids, `from_func_decl` and `to_inst_and_attrs`, which make its list.
+//! Rust's ids, `from_func_decl` and `to_inst_and_attrs`, which make its list; and of these with the
+//! reading of the text by the oracle.
 //!
 //! The first three are functions of the static library, on the case's text and slices that stay
-//! the same. The others start from the Rust's own data, which are made before, and drop what they
-//! make. The five take turns, and the least of `ROUNDS` rounds counts.
+//! the same. The next two start from the Rust's own data, which are made before, and the Rust drops
+//! what it makes. All take turns, and the least of `ROUNDS` rounds counts.
 //!
 //! `time --only NAME CASE` calls one of them for ten seconds, for a profiler to look at.
 
@@ -55,19 +56,24 @@ fn time(path: &str, only: Option<&str>) {
     let (blocks, insts) = (ready.blocks(), ready.lift(&named));
     println!("{path}: {} bytes, {blocks} blocks, {insts} instructions, {words} words", text.len());
 
-    let mut timed: [Timed<'_>; 5] = [
+    let from_text = |case: &[u8]| {
+        let ready = Ready::new(case).expect("the Rust has such a function");
+        ready.lift(&ready.named())
+    };
+    let mut timed: [Timed<'_>; 6] = [
         ("clearing", Box::new(lent(|[f, w, _]| read_in(black_box(b"x"), f, w)))),
         ("read", Box::new(lent(|[f, w, _]| read_in(black_box(text), f, w)))),
         ("lift", Box::new(lent(|[f, w, o]| lift_in(black_box(text), first, f, w, o)))),
         ("from_func_decl", Box::new(|| _ = black_box(black_box(&ready).blocks()))),
         ("rust", Box::new(|| _ = black_box(black_box(&ready).lift(&named)))),
+        ("rust from text", Box::new(|| _ = black_box(from_text(black_box(&case))))),
     ];
     if let Some(only) = only {
         let (_, call) = timed.iter_mut().find(|(name, _)| *name == only).expect("a known name");
         println!("  {only:18}{:9.0} ns", round(call, ALONE));
         return;
     }
-    let mut least = [f64::INFINITY; 5];
+    let mut least = [f64::INFINITY; 6];
     for _ in 0..ROUNDS {
         for ((_, call), least) in timed.iter_mut().zip(&mut least) {
             *least = least.min(round(call, ROUND));
