@@ -1,5 +1,5 @@
 -- What the program prints for an input: the list or the refusal of the text behind the line `(first N)`. Assumes nothing.
---     bad-line, good-line, line-low  by the first line
+--     bad-line, good-line, bad-leaves, good-leaves, line-low    by the first line
 --     lifted-bytes, lifted-stands    what the entry tells and leaves in the output slice gives these bytes
 use mathlib.Core.Path.{_≡_, refl, sym, ap, subst, _∙_}
 use mathlib.Core.List.{List, _++_}
@@ -32,6 +32,15 @@ lineBytes (some x) func work out = answerBytes (answer (x .1) (x .0) func work o
 unfoldable pub inputBytes : List ℕ → ℕ → ℕ → ℕ → List ℕ
 unfolding firstLine
 inputBytes input func work out = lineBytes (firstLine .read input) func work out
+
+-- what a slice holds at the end, where an answer leaves it as g says; a bad first line leaves every slice alone
+abbrev pub lineLeaves : (Answer → List ℕ → List ℕ) → Option (ℕ × List ℕ) → ℕ → ℕ → ℕ → List ℕ → List ℕ
+lineLeaves g none func work out w = w
+lineLeaves g (some x) func work out w = g (answer (x .1) (x .0) func work out) w
+
+unfoldable pub inputLeaves : (Answer → List ℕ → List ℕ) → List ℕ → ℕ → ℕ → ℕ → List ℕ → List ℕ
+unfolding firstLine
+inputLeaves g input func work out w = lineLeaves g (firstLine .read input) func work out w
 
 -- what the entry told, with the words of the output slice
 abbrev pub liftedBytes : Lifted → List ℕ → List ℕ
@@ -73,6 +82,14 @@ module _ (input : List ℕ) (func work out : ℕ) (r : First) (reads : Reads (fi
   pub good-line : {n k : ℕ} → r ≡ At n k → answerBytes (answer (drop k input) n func work out) ≡ inputBytes input func work out
   unfolding inputBytes
   good-line e = sym (ap (λ (o : Option (ℕ × List ℕ)). lineBytes o func work out) (line-is ∙ ap (λ (x : First). rest input (firstOf x)) e))
+
+  pub bad-leaves : (g : Answer → List ℕ → List ℕ) (w : List ℕ) → r ≡ Bad → w ≡ inputLeaves g input func work out w
+  unfolding inputLeaves
+  bad-leaves g w e = sym (ap (λ (o : Option (ℕ × List ℕ)). lineLeaves g o func work out w) (line-is ∙ ap (λ (x : First). rest input (firstOf x)) e))
+
+  pub good-leaves : (g : Answer → List ℕ → List ℕ) (w : List ℕ) {n k : ℕ} → r ≡ At n k → g (answer (drop k input) n func work out) w ≡ inputLeaves g input func work out w
+  unfolding inputLeaves
+  good-leaves g w e = sym (ap (λ (o : Option (ℕ × List ℕ)). lineLeaves g o func work out w) (line-is ∙ ap (λ (x : First). rest input (firstOf x)) e))
 
   pub line-low : {n k : ℕ} → r ≡ At n k → k ≤ length input
   line-low {n} {k} e = subst (λ (x : First). Moves input 0 (firstOf x)) e (reads .moves) .fits

@@ -8,9 +8,10 @@ use printed::list;
 use printed::refused;
 ghost use Prim.Native.Nat.{_+_, _*_, _≤_};
 ghost use lib.ListN.{length};
-ghost use Rattle.lifting.specs.Answer.{answer};
+ghost use mathlib.Core.Path.{_≡_};
+ghost use Rattle.lifting.specs.Answer.{answer, outAfter, scratchAfter};
 ghost use Rattle.printed.specs.Put.{Put};
-ghost use Rattle.told.specs.Input.{Stands, answerBytes, inputBytes, liftedBytes};
+ghost use Rattle.told.specs.Input.{Stands, answerBytes, inputBytes, inputLeaves, liftedBytes};
 
 // The lines of the list in the output slice, or the refusal's line.
 fn put_lifted(bytes: &mut [u8], r: Lifted, out: &[u32]) -> usize
@@ -33,6 +34,9 @@ fn put_text(
     out: &mut [u32],
 ) -> usize
     ensures { λ n. ⌜ Put (now (bytes .entry)) 0 (answerBytes (answer (now (text .entry)) first (length (now (func .entry))) (length (now (work .entry))) (length (now (out .entry))))) (now (bytes .exit)) n ⌝ }
+    ensures { λ _. ⌜ now (func .exit) ≡ scratchAfter (answer (now (text .entry)) first (length (now (func .entry))) (length (now (work .entry))) (length (now (out .entry)))) (now (func .entry)) ⌝ }
+    ensures { λ _. ⌜ now (work .exit) ≡ scratchAfter (answer (now (text .entry)) first (length (now (func .entry))) (length (now (work .entry))) (length (now (out .entry)))) (now (work .entry)) ⌝ }
+    ensures { λ _. ⌜ now (out .exit) ≡ outAfter (answer (now (text .entry)) first (length (now (func .entry))) (length (now (work .entry))) (length (now (out .entry)))) (now (out .entry)) ⌝ }
 {
     let r = lift_function(text, first, func, work, out);
     put_lifted(bytes, r, out)
@@ -48,6 +52,9 @@ pub fn put_input(
 ) -> usize
     ensures { λ n. ⌜ Put (now (bytes .entry)) 0 (inputBytes (now (input .entry)) (length (now (func .entry))) (length (now (work .entry))) (length (now (out .entry)))) (now (bytes .exit)) n ⌝ }
     ensures { λ n. ⌜ n ≤ 12 * length (now (out .entry)) + 21 ⌝ }
+    ensures { λ _. ⌜ now (func .exit) ≡ inputLeaves scratchAfter (now (input .entry)) (length (now (func .entry))) (length (now (work .entry))) (length (now (out .entry))) (now (func .entry)) ⌝ }
+    ensures { λ _. ⌜ now (work .exit) ≡ inputLeaves scratchAfter (now (input .entry)) (length (now (func .entry))) (length (now (work .entry))) (length (now (out .entry))) (now (work .entry)) ⌝ }
+    ensures { λ _. ⌜ now (out .exit) ≡ inputLeaves outAfter (now (input .entry)) (length (now (func .entry))) (length (now (work .entry))) (length (now (out .entry))) (now (out .entry)) ⌝ }
 {
     let First::At(first, at) = first_line(input) else {
         return refused(2, bytes);

@@ -8,9 +8,9 @@ use Rattle.printed.specs.Put.{Put, put-same}
 use Rattle.printed.specs.Shown.{refusedBytes}
 use mathlib.Core.List.{List}
 use Prim.Native.Nat.{ℕ, _+_, _*_, _≤_}
-use Rattle.lifting.specs.Answer.{answer}
+use Rattle.lifting.specs.Answer.{answer, outAfter, scratchAfter}
 use Rattle.printed.proofs.Laws.{tail-part}
-use Rattle.told.specs.Input.{answerBytes, bad-line, good-line, inputBytes, line-low}
+use Rattle.told.specs.Input.{answerBytes, bad-leaves, bad-line, good-leaves, good-line, inputBytes, line-low}
 use Rattle.told.specs.Room.{input-room}
 use Rattle.told.proofs.put_input.Statement.{statement}
 use Rattle.told.proofs.put_input.Tie as tie
@@ -41,8 +41,10 @@ low out input func work p = omega (arith, p .place, input-room out input func wo
 returns : tie.Need-returns
 returns c =
     let a = c .before .before .before .before .before .before .before .before .before .before .before .before .args in
-    let p = put-same (c .before .before .refused .ensures) (bad-line (a .input .now) (length (a .func .now)) (length (a .work .now)) (length (a .out .now)) _ (c .before .before .before .before .before .before .first-line .ensures) (c .before .before .before .before .enum-told .given .1)) in
-    (p, low (length (a .out .now)) (a .input .now) (length (a .func .now)) (length (a .work .now)) p)
+    let r = c .before .before .before .before .before .before .first-line .ensures in
+    let b = c .before .before .before .before .enum-told .given .1 in
+    let p = put-same (c .before .before .refused .ensures) (bad-line (a .input .now) (length (a .func .now)) (length (a .work .now)) (length (a .out .now)) _ r b) in
+    (p, (low (length (a .out .now)) (a .input .now) (length (a .func .now)) (length (a .work .now)) p, (bad-leaves (a .input .now) (length (a .func .now)) (length (a .work .now)) (length (a .out .now)) _ r scratchAfter (a .func .now) b, (bad-leaves (a .input .now) (length (a .func .now)) (length (a .work .now)) (length (a .out .now)) _ r scratchAfter (a .work .now) b, bad-leaves (a .input .now) (length (a .func .now)) (length (a .work .now)) (length (a .out .now)) _ r outAfter (a .out .now) b))))
 
 sub-put-text : tie.Need-sub-put-text
 sub-put-text c =
@@ -76,10 +78,15 @@ returns-2 : tie.Need-returns-2
 returns-2 c =
     let a = c .before .before .before .before .before .before .before .before .before .before .before .before .before .before .before .before .before .before .before .before .before .before .before .args in
     let k = c .before .before .before .before .before .before .before .before .before .before .before .before .before .before .before .first .given .0 .1 .0 in
-    let p = put-same (c .before .before .before .before .before .before .before .before .put-text .ensures)
-    (ap (λ (t : List ℕ). answerBytes (answer t (c .before .before .before .before .before .before .before .before .before .before .before .before .before .before .before .first .given .0 .0) (length (a .func .now)) (length (a .work .now)) (length (a .out .now)))) (tail-part k (a .input .now))
-    ∙ good-line (a .input .now) (length (a .func .now)) (length (a .work .now)) (length (a .out .now)) _ (c .before .before .before .before .before .before .before .before .before .before .before .before .before .before .before .before .before .first-line .ensures) (c .before .before .before .before .before .before .before .before .before .before .before .before .before .before .before .first .given .1)) in
-    (p, low (length (a .out .now)) (a .input .now) (length (a .func .now)) (length (a .work .now)) p)
+    let n = c .before .before .before .before .before .before .before .before .before .before .before .before .before .before .before .first .given .0 .0 in
+    let r = c .before .before .before .before .before .before .before .before .before .before .before .before .before .before .before .before .before .first-line .ensures in
+    let h = c .before .before .before .before .before .before .before .before .before .before .before .before .before .before .before .first .given .1 in
+    let z = tail-part k (a .input .now) in
+    let e = c .before .before .before .before .before .before .before .before .put-text .ensures in
+    let p = put-same (e .0)
+    (ap (λ (t : List ℕ). answerBytes (answer t n (length (a .func .now)) (length (a .work .now)) (length (a .out .now)))) z
+    ∙ good-line (a .input .now) (length (a .func .now)) (length (a .work .now)) (length (a .out .now)) _ r h) in
+    (p, (low (length (a .out .now)) (a .input .now) (length (a .func .now)) (length (a .work .now)) p, (e .1 .0 ∙ ap (λ (t : List ℕ). scratchAfter (answer t n (length (a .func .now)) (length (a .work .now)) (length (a .out .now))) (a .func .now)) z ∙ good-leaves (a .input .now) (length (a .func .now)) (length (a .work .now)) (length (a .out .now)) _ r scratchAfter (a .func .now) h, (e .1 .1 .0 ∙ ap (λ (t : List ℕ). scratchAfter (answer t n (length (a .func .now)) (length (a .work .now)) (length (a .out .now))) (a .work .now)) z ∙ good-leaves (a .input .now) (length (a .func .now)) (length (a .work .now)) (length (a .out .now)) _ r scratchAfter (a .work .now) h, e .1 .1 .1 ∙ ap (λ (t : List ℕ). outAfter (answer t n (length (a .func .now)) (length (a .work .now)) (length (a .out .now))) (a .out .now)) z ∙ good-leaves (a .input .now) (length (a .func .now)) (length (a .work .now)) (length (a .out .now)) _ r outAfter (a .out .now) h))))
 
 pub put-input-spec : {M : Type 1} → statement M
 put-input-spec =

@@ -21,11 +21,11 @@ put-input-requires c κs = search needs
 
 array-share-prefix-bytes : tie.Need-array-share-prefix-bytes
 array-share-prefix-bytes c =
-    omega (arith, c .before .before .before .before .before .before .put-input .ensures .1, put-length (c .before .before .before .before .before .before .put-input .ensures .0))
+    omega (arith, c .before .before .before .before .before .before .put-input .ensures .1 .0, put-length (c .before .before .before .before .before .before .put-input .ensures .0))
 
 slice-aggregate-write-all : tie.Need-slice-aggregate-write-all
 slice-aggregate-write-all c =
-    sym (length-take-le _ _ (omega (arith, c .before .before .before .before .before .before .before .put-input .ensures .1, put-length (c .before .before .before .before .before .before .before .put-input .ensures .0))))
+    sym (length-take-le _ _ (omega (arith, c .before .before .before .before .before .before .before .put-input .ensures .1 .0, put-length (c .before .before .before .before .before .before .before .put-input .ensures .0))))
 
 write-all-requires : tie.Need-write-all-requires
 write-all-requires c κs = search needs
