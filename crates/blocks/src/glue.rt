@@ -1,6 +1,6 @@
 // The kept blocks as runs of visited points: one pass forward says of each position in which block it stands, and whether its point absorbs the
 // next one.
-use crate::counts::USES;
+use crate::uses::USES;
 use func::pools::wide;
 use points::POINTS;
 use term::Sole;

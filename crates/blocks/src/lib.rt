@@ -1,9 +1,9 @@
 // Use counts of the visited points, and the kept blocks as runs of neighbouring visited points.
-pub mod counts;
 pub mod glue;
+pub mod uses;
 
-use crate::counts::count_uses;
 use crate::glue::glue;
+use crate::uses::count_uses;
 use control::tables::CHILDREN;
 use control::tables::LINES;
 use points::POINTS;

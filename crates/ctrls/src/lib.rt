@@ -1,6 +1,6 @@
 // Reads ctrl lines, stores what they hold in the function slice, and judges what refusals 4 and 6 ask of them as they are read: refusal 3 bounds
 // neither the lines nor their entries, so that there need not be room for all of them.
-pub mod edges; // edges.rt: entries and targets
+pub mod entries; // entries.rt: entries and targets
 pub mod kinds; // kinds.rt: K of a line, and the lists behind it
 pub mod line; // line.rt: a line, and all lines
 

@@ -1,8 +1,8 @@
 // Lists with the word before them, and with what ends them.
-use crate::lists::decl_list;
-use crate::lists::imm_list;
-use crate::lists::number_list;
-use crate::lists::value_list;
+use crate::elements::decl_list;
+use crate::elements::imm_list;
+use crate::elements::number_list;
+use crate::elements::value_list;
 use cursor::Cursor;
 use cursor::Step;
 use func::CHILD_REFS;

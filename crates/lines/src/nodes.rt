@@ -1,13 +1,13 @@
 // Block, select, loop and exit lines.
 use crate::NodeWord;
 use crate::NodeWordRead;
+use crate::elements::imm_list;
+use crate::elements::keep_value;
+use crate::elements::number_list;
 use crate::forms::cases_form;
 use crate::forms::init_form;
 use crate::forms::inst_values;
 use crate::forms::outs_form;
-use crate::lists::imm_list;
-use crate::lists::keep_value;
-use crate::lists::number_list;
 use cursor::Cursor;
 use cursor::NumberRead;
 use cursor::Selection;

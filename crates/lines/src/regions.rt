@@ -1,7 +1,7 @@
 // Region lines.
+use crate::elements::decl_list;
 use crate::forms::nodes_form;
 use crate::forms::out_form;
-use crate::lists::decl_list;
 use cursor::Cursor;
 use cursor::Step;
 use func::keep;

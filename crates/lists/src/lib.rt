@@ -1,8 +1,8 @@
 // The lists that an instruction is made of, each named by the line that it stands in, so that one loop serves all lists of immediates and one
 // all lists of values; and what moves into phis.
+pub mod edge_values;
 pub mod elements;
 pub mod ops;
-pub mod phis;
 pub mod ways;
 
 // A list of values: none; the operands of an op; the inputs of a ctrl line; the values of a node, an exit or a select; a loop's condition

@@ -9,7 +9,7 @@ use crate::pairs::put_pairs;
 use insts::parts::id_of;
 use insts::parts::put_front;
 use lists::Imms;
-use lists::phis::phi_decl;
+use lists::edge_values::phi_decl;
 use opcodes::InstKind;
 use opcodes::opcode;
 use put::Cursor;

@@ -7,7 +7,7 @@ use edges::next_edge;
 use func::pools::wide;
 use insts::parts::id_of;
 use insts::parts::label_of;
-use lists::phis::edge_value;
+use lists::edge_values::edge_value;
 use points::POINTS;
 use put::Cursor;
 use put::put_id;

@@ -1,12 +1,12 @@
 // What the program prints, put into a slice of bytes that the caller lends, and the line that it reads before the text. The result is the count
 // of the bytes, of which those past the slice's end are not stored.
-pub mod put; // put.rt: bytes and numbers at a place
-mod insts; // insts.rt: the line of an instruction
+pub mod append; // append.rt: bytes and numbers at a place
+mod instruction; // instruction.rt: the line of an instruction
 
-use crate::insts::next_inst;
-use crate::insts::put_inst;
-use crate::put::put_bytes;
-use crate::put::put_field;
+use crate::append::put_bytes;
+use crate::append::put_field;
+use crate::instruction::next_inst;
+use crate::instruction::put_inst;
 use cursor::Cursor;
 use cursor::NumberRead;
 use cursor::Step;

@@ -1,13 +1,13 @@
 // What is printed of a text: a line for each of its kept blocks, or the line `(refused N)`; an imported function has none.
 mod stand; // stand.rt: what the work slice says of a visited point
-mod lines; // lines.rt: the lines of kept blocks
+mod block_lines; // block_lines.rt: the lines of kept blocks
 
-use crate::lines::put_lines;
+use crate::block_lines::put_lines;
 use blocks::blocks;
 use checks::Parsed;
 use checks::number;
 use func::look::region_total;
-use printed::put::put_bytes;
+use printed::append::put_bytes;
 ghost use mathlib.Core.Path.{_≡_};
 ghost use Prim.Native.Nat.{_≤_};
 ghost use lib.ListN.{length, replicate};

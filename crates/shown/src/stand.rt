@@ -1,7 +1,7 @@
 // What the work slice says of a visited point: its number, how often it is used, in which kept block it stands, and whether it absorbs the next.
-use blocks::counts::USES;
 use blocks::glue::GLUES;
 use blocks::glue::STATUSES;
+use blocks::uses::USES;
 use func::pools::wide;
 use points::POINTS;
 ghost use mathlib.Core.Path.{_≡_};

@@ -1,0 +1,25 @@
+-- `edges::values_fit` meets its contract. Assumes nothing.
+use Prim.Native.Nat.{ℕ, _+_}
+use mathlib.Core.Path.{ap, _∙_}
+use lib.Dec.{eqb}
+use Rattle.ctrls.specs.Judge.{insOf}
+use borrow.Author.Needs.{needs}
+use Rattle.ctrls.proofs.entries.values_fit.Statement.{statement}
+use Rattle.ctrls.proofs.entries.values_fit.Tie as tie
+
+returns : tie.Need-returns
+returns c =
+    let a = c .before .before .before .before .before .before .args in
+    λ i. eqb (c .before .before .wide2 .ensures i + (c .before .before .before .ins-of .ensures .0 ∙ ap (insOf (a .func .now)) (c .before .before .before .before .wide .ensures)) i) ((c .wide3 .ensures ∙ c .before .count .ensures) i)
+
+pub values-fit-spec : {M : Type 1} → statement M
+values-fit-spec =
+    tie.close
+    (tie.spec
+    (λ c κs. search needs)
+    (λ c κs. search needs)
+    (λ c κs. search needs)
+    (λ c. search needs)
+    (λ c κs. search needs)
+    (λ c κs. search needs)
+    returns)
