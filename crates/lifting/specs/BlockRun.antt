@@ -6,15 +6,15 @@ use mathlib.Core.Option.{Option, none, some}
 use Prim.Native.Nat.{ℕ, zero, suc}
 use native.Mathlib.Decide.{ℕ-discrete}
 use lib.Dec.{eqb}
-use lib.ListN.{getD, length}
+use lib.ListN.{length}
 use Rattle.opcodes.specs.declared.InstKind.{InstKind}
 use Rattle.opcodes.specs.declared.InstKind.the-variants.{ExtInst, FunctionParameter, FunctionEnd, FunctionCall, Phi, LoopMerge, SelectionMerge, Label, Branch, BranchConditional, Return, ReturnValue, Unreachable}
 use Rattle.opcodes.specs.Table.{opcodeOf}
 use Rattle.lifting.specs.Lists.{choose, find, keys, within, tabulate}
 use Rattle.lifting.specs.Machine.{Out, go, halt}
-use Rattle.lifting.specs.Ast.{Inst, boolCond, spvInst, Const}
+use Rattle.lifting.specs.Ast.{SelectionKind, boolCond, spvInst, Const}
 use Rattle.lifting.specs.Instructions.{Instruction}
-use Rattle.lifting.specs.World.{World, Executed, End, returned, exited, dead, Mem, put, puts, reads, reading, pick}
+use Rattle.lifting.specs.World.{World, Executed, End, returned, exited, dead, stuck, Mem, put, puts, reads, reading, pick}
 
 -- an instruction of a kind of the table
 abbrev pub isKind : InstKind → Instruction → Bool
@@ -99,15 +99,15 @@ calleeIn i = cond (hasCallee i) (headId (i .ids)) none
 abbrev pub operandsIn : Instruction → List ℕ
 operandsIn i = cond (hasCallee i) (tailIds (i .ids)) (i .ids)
 
+-- the selection's kind: `bool`, which is 250, or its opcode, with its immediates
+abbrev pub selectionOf : Instruction → SelectionKind
+selectionOf i = cond (isKind BranchConditional i) boolCond (spvInst (record { opcode = i .opcode; imms = i .imms }))
+
 -- the block that runs, by its label; its instructions still to do; values by id
 pub record BlockState (Val : Type 0) : Type 0 where
   pub at : ℕ
   pub todo : List Instruction
   pub mem : Mem Val ℕ
-
-abbrev pub bodyOr : Option (List Instruction) → List Instruction
-bodyOr none = []
-bodyOr (some l) = l
 
 abbrev pub firstLabel : List (ℕ × List Instruction) → ℕ
 firstLabel [] = 0
@@ -131,31 +131,36 @@ module _ {Val : Type 0} (W : World Val) where
   module _ (bs : List (ℕ × List Instruction)) where
     -- On the way in along an edge, from block l to block k, all phis together take the values of the ids paired with the block it leaves;
     -- the ops follow, then the way out.
-    abbrev pub goTo : ℕ → ℕ → Mem Val ℕ → Out (BlockState Val) (End Val)
-    goTo l k m = let body = bodyOr (find ℕ-discrete k bs) in
+    abbrev pub comeIn : ℕ → ℕ → Option (List Instruction) → Mem Val ℕ → Out (BlockState Val) (End Val)
+    comeIn l k none m = halt stuck
+    comeIn l k (some body) m =
         reading (reads (m .env) (pairsFor l (phisOf body)))
         (λ ws. go (record { at = k; todo = runOf body; mem = record { env = puts ℕ-discrete (m .env) (results (phisOf body)) ws; log = m .log } }))
 
-    -- any other with targets goes to the one that the rule picks, and one without is an exit
-    abbrev pub otherWay : ℕ → Inst → List ℕ → List Val → Mem Val ℕ → Out (BlockState Val) (End Val)
-    otherWay l i [] vs m = halt (exited i vs)
-    otherWay l i (t ∷ ts) vs m = goTo l (getD (t ∷ ts) (pick W (spvInst i) vs (length (t ∷ ts))) 0) m
+    abbrev pub goTo : ℕ → ℕ → Mem Val ℕ → Out (BlockState Val) (End Val)
+    goTo l k m = comeIn l k (find ℕ-discrete k bs) m
 
-    -- 253 and 254 return, 255 is unreachable, 249 goes to its target
+    -- to the n-th of these targets; a pick beyond them leads nowhere
+    abbrev pub goNth : ℕ → List ℕ → ℕ → Mem Val ℕ → Out (BlockState Val) (End Val)
+    goNth l [] n m = halt stuck
+    goNth l (t ∷ ts) zero m = goTo l t m
+    goNth l (t ∷ ts) (suc n) m = goNth l ts n m
+
+    -- 249 goes to its target, any other with targets to the one that the rule picks, and one without is an exit
+    abbrev pub otherWay : ℕ → Instruction → List ℕ → List Val → Mem Val ℕ → Out (BlockState Val) (End Val)
+    otherWay l i [] vs m = halt (exited (record { opcode = i .opcode; imms = i .imms }) vs)
+    otherWay l i (t ∷ ts) vs m = cond (isKind Branch i) (goTo l t m) (goNth l (t ∷ ts) (pick W (selectionOf i) vs (length (t ∷ ts))) m)
+
+    -- 253 and 254 return, 255 is unreachable
     abbrev pub wayBy : ℕ → Instruction → List ℕ → List Val → Mem Val ℕ → Out (BlockState Val) (End Val)
-    wayBy l i ts vs m =
-        cond (isKind Return i || isKind ReturnValue i) (halt (returned vs))
-        (cond (isKind Unreachable i) (halt dead)
-        (cond (isKind Branch i) (goTo l (getD ts 0 0) m)
-        (cond (isKind BranchConditional i) (goTo l (getD ts (pick W boolCond vs (length ts)) 0) m)
-        (otherWay l (record { opcode = i .opcode; imms = i .imms }) ts vs m))))
+    wayBy l i ts vs m = cond (isKind Return i || isKind ReturnValue i) (halt (returned vs)) (cond (isKind Unreachable i) (halt dead) (otherWay l i ts vs m))
 
     -- The way out reads its inputs.
     abbrev pub wayOut : ℕ → Instruction → Mem Val ℕ → Out (BlockState Val) (End Val)
     wayOut l i m = reading (reads (m .env) (othersIn (keys bs) (i .ids))) (λ vs. wayBy l i (labelsIn (keys bs) (i .ids)) vs m)
 
     abbrev pub doInsts : List Instruction → ℕ → Mem Val ℕ → Out (BlockState Val) (End Val)
-    doInsts [] l m = halt dead
+    doInsts [] l m = halt stuck
     doInsts (i ∷ []) l m = wayOut l i m
     doInsts (i ∷ j ∷ is) l m = reading (reads (m .env) (operandsIn i)) (λ vs. go (record { at = l; todo = j ∷ is; mem = executeInst i vs m }))
 

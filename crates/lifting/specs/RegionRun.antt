@@ -10,7 +10,7 @@ use Rattle.lifting.specs.Machine.{Out, go, halt}
 use Rattle.lifting.specs.Ast.{Value, const, regionInput, dataInstOutput, eqValue, DataInstKind, inst, call, ext, Op, ControlInstKind, unreachable, return, branch, selectBranch, exitInvocation, Node, block, select, loop, exit, ControlInst, Func}
 use Rattle.lifting.specs.Parts.{regionOf, nodeOf, opOf, ctrlOf, insKeys, outKeys, valsFor}
 use Rattle.lifting.specs.Instructions.{opOpcode, opImms}
-use Rattle.lifting.specs.World.{World, Executed, End, returned, exited, dead, Mem, put, puts, reads, reading, truths, pick}
+use Rattle.lifting.specs.World.{World, Executed, End, returned, exited, dead, stuck, Mem, put, puts, reads, reading, truths, pick}
 
 pub data Task : Type 0 where
   op : ℕ → Task
@@ -87,7 +87,7 @@ module _ (F : Func) {Val : Type 0} (W : World Val) where
   -- after a case its outputs set the outs; after a lap the condition is read, and only if it is true are the body's outputs read into its
   -- inputs for another lap
   abbrev pub doTasks : List Task → Mem Val Value → Out (RegionState Val) (End Val)
-  doTasks [] m = halt dead
+  doTasks [] m = halt stuck
   doTasks (op i ∷ k) m = reading (reads (m .env) (opOf F i .operands)) (λ vs. go (record { todo = k; mem = execute W (opOf F i) i vs m }))
   doTasks (node n ∷ k) m = doNode (nodeOf F n) n k m
   doTasks (close ks c ∷ k) m = reading (reads (m .env) (regionOf F c .outs)) (λ vs. go (record { todo = k; mem = sets ks vs m }))

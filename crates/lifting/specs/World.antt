@@ -28,12 +28,15 @@ pub record Executed (Val : Type 0) : Type 0 where
   pub callee : Option ℕ
   pub vals : List Val
 
--- how a run ends: it returns, leaves by an exit, comes to what is unreachable, or reads a value not yet set
+-- How a run ends: it returns, leaves by an exit, comes to what is unreachable, or reads a value not yet set. A machine that cannot go on (no
+-- task left, no instruction left, a label that is not there) is stuck: no accepted text comes to that in either run (`never-stuck` of
+-- runs/Demand3).
 pub data End (Val : Type 0) : Type 0 where
   returned : List Val → End Val
   exited : Inst → List Val → End Val
   dead : End Val
   unset : End Val
+  stuck : End Val
 
 -- values by key, and the executed list
 pub record Mem (Val K : Type 0) : Type 0 where

@@ -1,6 +1,6 @@
 -- The kept blocks run like the emitted list.
 use mathlib.Core.Path.{_≡_, refl, sym, ap, _∙_, subst}
-use mathlib.Core.Bool.{Bool, cond, _||_}
+use mathlib.Core.Bool.{Bool, true, false, cond, _||_}
 use mathlib.Core.List.{List, [], _∷_, _++_, map}
 use mathlib.Core.Option.{Option, none, some}
 use Prim.Native.Nat.{ℕ, zero, suc, _≤_, _<_}
@@ -11,7 +11,7 @@ use lib.ListN.{getD, length, length-map}
 use Rattle.opcodes.specs.Table.{opcodeOf}
 use Rattle.opcodes.specs.declared.InstKind.the-variants.{ExtInst, FunctionCall, Branch, BranchConditional, Return, ReturnValue, Unreachable}
 use Rattle.lifting.specs.Lists.{choose, choose-no, choose-yes, find, keys, tabulate}
-use Rattle.lifting.specs.Ast.{ControlInstKind, DataInstKind, Decl, Func, Inst, Value, boolCond, branch, call, const, dataInstOutput, eqValue, exitInvocation, ext, inst, return, selectBranch, spvInst, unreachable}
+use Rattle.lifting.specs.Ast.{ControlInstKind, DataInstKind, Decl, Func, Inst, SelectionKind, Value, boolCond, branch, call, const, dataInstOutput, eqValue, exitInvocation, ext, inst, return, selectBranch, spvInst, unreachable}
 use Rattle.lifting.specs.Parts.{calleeIds, ids, opOf}
 use Rattle.lifting.specs.Points.{BlockLifting, CfgPoint, Table, Terminator, blockAt, blockOr, edgeOf, eqPoint, points, regionEntry}
 use Rattle.lifting.specs.Absorb.{countIn}
@@ -20,10 +20,10 @@ use Rattle.lifting.specs.Instructions.{Instruction, bodyInsts, ifUsed, opInst, 
 use Rattle.lifting.specs.Machine.{Alike, Out, go, halt}
 use Rattle.lifting.specs.World.{End, Executed, Mem, World, exited, pick, put, puts, reading, reads}
 use Rattle.lifting.specs.RegionRun.{atFirst, calleeOf, entry, setResult}
-use Rattle.lifting.specs.BlockRun.{BlockState, blockLog, blockStep, bodyOr, doInsts, executeInst, goTo, headId, labelsIn, operandsIn, otherWay, pairOf, pairsFor, phisOf, results, runOf, setId, tailIds, wayBy, wayOut}
+use Rattle.lifting.specs.BlockRun.{BlockState, blockLog, blockStep, comeIn, doInsts, executeInst, goNth, goTo, headId, isKind, labelsIn, operandsIn, otherWay, pairOf, pairsFor, results, runOf, selectionOf, setId, tailIds, wayBy, wayOut}
 use Rattle.runs.specs.Members.{All, In, all-in, here, in-getD, in-map, in-right, map-in, tabulate-all, there}
 use Rattle.runs.specs.Tests.{find-in}
-use Rattle.runs.specs.Accepted.{FreeInst, FreeKind, FreeOp, Numbered, WayFit}
+use Rattle.runs.specs.Accepted.{Enough, FreeInst, FreeKind, FreeOp, Numbered, WayFit}
 use Rattle.runs.specs.Simulation.{Macro, MeetOut, alike-of, at-once, out-go, out-halt}
 use Rattle.runs.specs.PointRun.{PointState, doOps, jump, leavePoint, pointLog, pointStart, pointStep, pointWay}
 use Rattle.runs.specs.Structure.{meet-reading, pick-lt}
@@ -257,7 +257,7 @@ module _ (F : Func) (first : ℕ) (T K : Table) where
           let P = phiInsts F first T K q (b .keys) (b .decls) 0 in
           let E = edgeOf K (d .term) q in
           let right : goTo W bs lp lq m ≡ reading (reads e E) (λ ws. go (record { at = lq; todo = rest (b .ops) (b .term); mem = record { env = puts ℕ-discrete f (map (idOf F first T K) (b .keys)) ws; log = l } }))
-          = ap (λ (o : Option (List Instruction)). goParts lp lq (phisOf (bodyOr o)) (runOf (bodyOr o)) m) (find-label q (label-named q b fq) K b fq)
+          = ap (λ (o : Option (List Instruction)). comeIn W bs lp lq o m) (find-label q (label-named q b fq) K b fq)
           ∙ ap (λ (x : List Instruction). goParts lp lq x (runOf (bodyInsts F first T K q b)) m) (body-phis F first T K q b (free-of b bq))
           ∙ ap (λ (x : List Instruction). goParts lp lq P x m) (body-run F first T K q b (free-of b bq))
           ∙ ap (λ (x : List ℕ). reading (reads f x) (λ ws. go (record { at = lq; todo = rest (b .ops) (b .term); mem = record { env = puts ℕ-discrete f (results P) ws; log = l } })))
@@ -291,20 +291,48 @@ module _ (F : Func) (first : ℕ) (T K : Table) where
       abbrev wayInst : ControlInstKind → List Value → ℕ → List ℕ → Instruction
       wayInst k is a xs = record { opcode = termOpcode k is; attrs = a; type = 0; result = 0; imms = termImms k; ids = xs }
 
+      nth-in : (l : ℕ) (ts : List ℕ) (n : ℕ) (m : Mem Val ℕ) → n < length ts → goNth W bs l ts n m ≡ goTo W bs l (getD ts n 0) m
+      nth-in l [] n m h = absurd (omega arith)
+      nth-in l (t ∷ ts) zero m h = refl
+      nth-in l (t ∷ ts) (suc n) m h = nth-in l ts n m (omega arith)
+
+      branch-way : (l : ℕ) (i : Instruction) (ts : List ℕ) (vs : List Val) (m : Mem Val ℕ) → isKind Branch i ≡ true → 0 < length ts → otherWay W bs l i ts vs m ≡ goTo W bs l (getD ts 0 0) m
+      branch-way l i [] vs m e h = absurd (omega arith)
+      branch-way l i (t ∷ ts) vs m e h = rw e
+
+      select-way : (l : ℕ) (i : Instruction) (k : SelectionKind) (ts : List ℕ) (vs : List Val) (m : Mem Val ℕ) → isKind Branch i ≡ false → selectionOf i ≡ k → Enough k (length ts)
+          → otherWay W bs l i ts vs m ≡ goTo W bs l (getD ts (pick W k vs (length ts)) 0) m
+      select-way l i k [] vs m e s f = absurd (omega (arith, pick-lt W k vs 0 f))
+      select-way l i k (t ∷ ts) vs m e s f = rw (e, s) (nth-in l (t ∷ ts) (pick W k vs (length (t ∷ ts))) m (pick-lt W k vs (length (t ∷ ts)) f))
+
+      exit-way : (l : ℕ) (i : Instruction) (ts : List CfgPoint) (vs : List Val) (m : Mem Val ℕ) → length ts ≡ 0
+          → otherWay W bs l i (map (labelOf F first T K) ts) vs m ≡ halt (exited (record { opcode = i .opcode; imms = i .imms }) vs)
+      exit-way l i [] vs m h = refl
+      exit-way l i (t ∷ ts) vs m h = absurd (omega arith)
+
       -- by an opcode of the text
       text-way : (i : Inst) (a : ℕ) (xs : List ℕ) (l : ℕ) (ts : List ℕ) (vs : List Val) (m : Mem Val ℕ) → FreeInst i
-          → wayBy W bs l (record { opcode = i .opcode; attrs = a; type = 0; result = 0; imms = i .imms; ids = xs }) ts vs m ≡ otherWay W bs l i ts vs m
-      text-way i a xs l ts vs m f =
-          rw (free-kind (i .opcode) Return f) (rw (free-kind (i .opcode) ReturnValue f) (rw (free-kind (i .opcode) Unreachable f)
-          (rw (free-kind (i .opcode) Branch f) (rw (free-kind (i .opcode) BranchConditional f) refl))))
+          → wayBy W bs l (wayInst (exitInvocation i) [] a xs) ts vs m ≡ otherWay W bs l (wayInst (exitInvocation i) [] a xs) ts vs m
+      text-way i a xs l ts vs m f = rw (free-kind (i .opcode) Return f) (rw (free-kind (i .opcode) ReturnValue f) (rw (free-kind (i .opcode) Unreachable f) refl))
 
-      other-nth : (p : CfgPoint) (i : Inst) (ts : List ℕ) (vs : List Val) (m : Mem Val ℕ) → 0 < length ts → otherWay W bs (labelOf F first T K p) i ts vs m ≡ goTo W bs (labelOf F first T K p) (getD ts (pick W (spvInst i) vs (length ts)) 0) m
-      other-nth p i [] vs m h = absurd (omega arith)
-      other-nth p i (t ∷ ts) vs m h = refl
+      text-selects : (i : Inst) (is : List Value) (a : ℕ) (xs : List ℕ) → FreeInst i → selectionOf (wayInst (selectBranch (spvInst i)) is a xs) ≡ spvInst i
+      text-selects i is a xs f = rw (free-kind (i .opcode) BranchConditional f)
 
-      other-none : (p : CfgPoint) (i : Inst) (ts : List CfgPoint) (vs : List Val) (m : Mem Val ℕ) → length ts ≡ 0 → otherWay W bs (labelOf F first T K p) i (map (labelOf F first T K) ts) vs m ≡ halt (exited i vs)
-      other-none p i [] vs m h = refl
-      other-none p i (t ∷ ts) vs m h = absurd (omega arith)
+      selected : (p : CfgPoint) (d : BlockLifting) (vs : List Val) (e : Value → Option Val) (f : ℕ → Option Val) (l : List (Executed Val))
+          → find eqPoint p K ≡ some d → Rel e f → (i : Instruction) (k : SelectionKind) → isKind Branch i ≡ false → selectionOf i ≡ k → Enough k (length (d .term .targets))
+          → ((ts : List ℕ) (m : Mem Val ℕ) → wayBy W bs (labelOf F first T K p) i ts vs m ≡ otherWay W bs (labelOf F first T K p) i ts vs m)
+          → MeetOut Wrote (pointWay F W (blockAt K) (selectBranch k) (d .term) vs (record { env = e; log = l }))
+          (wayBy W bs (labelOf F first T K p) i (map (labelOf F first T K) (d .term .targets)) vs (record { env = f; log = l }))
+      selected p d vs e f l fp r i k b s en by =
+          let n = length (d .term .targets) in
+          let ts = map (labelOf F first T K) (d .term .targets) in
+          let m : Mem Val ℕ = record { env = f; log = l } in
+          let lm = length-map (d .term .targets) (labelOf F first T K) in
+          let right : wayBy W bs (labelOf F first T K p) i ts vs m ≡ goTo W bs (labelOf F first T K p) (getD ts (pick W k vs n) 0) m
+          = by ts m ∙ select-way (labelOf F first T K p) i k ts vs m b s (subst (Enough k) (sym lm) en)
+          ∙ ap (λ (x : ℕ). goTo W bs (labelOf F first T K p) (getD ts (pick W k vs x) 0) m) lm in
+          subst (λ (y : Out (BlockState Val) (End Val)). MeetOut Wrote (pointWay F W (blockAt K) (selectBranch k) (d .term) vs (record { env = e; log = l })) y) (sym right)
+          (go-nth p d (pick W k vs n) e f l fp (pick-lt W k vs n en) r)
 
       way-by : (p : CfgPoint) (d : BlockLifting) (vs : List Val) (e : Value → Option Val) (f : ℕ → Option Val) (l : List (Executed Val))
           → find eqPoint p K ≡ some d → Rel e f → (k : ControlInstKind) (is : List Value) → (a : ℕ) (xs : List ℕ) → FreeKind k → WayFit k (length (d .term .targets))
@@ -313,26 +341,20 @@ module _ (F : Func) (first : ℕ) (T K : Table) where
       way-by p d vs e f l fp r unreachable is a xs fk wf = out-halt
       way-by p d vs e f l fp r return [] a xs fk wf = out-halt
       way-by p d vs e f l fp r return (v ∷ is) a xs fk wf = out-halt
-      way-by p d vs e f l fp r branch is a xs fk wf = go-nth p d 0 e f l fp (omega arith) r
-      way-by p d vs e f l fp r (selectBranch boolCond) is a xs fk wf =
-          subst (λ (n : ℕ). MeetOut Wrote (pointWay F W (blockAt K) (selectBranch boolCond) (d .term) vs (record { env = e; log = l }))
-          (goTo W bs (labelOf F first T K p) (getD (map (labelOf F first T K) (d .term .targets)) (pick W boolCond vs n) 0) (record { env = f; log = l })))
-          (sym (length-map (d .term .targets) (labelOf F first T K)))
-          (go-nth p d (pick W boolCond vs (length (d .term .targets))) e f l fp (pick-lt W boolCond vs (length (d .term .targets)) wf) r)
-      way-by p d vs e f l fp r (selectBranch (spvInst i)) is a xs fk wf =
+      way-by p d vs e f l fp r branch is a xs fk wf =
           let ts = map (labelOf F first T K) (d .term .targets) in
-          let m : Mem Val ℕ = record { env = f; log = l } in
-          let lm = length-map (d .term .targets) (labelOf F first T K) in
-          let right : wayBy W bs (labelOf F first T K p) (wayInst (selectBranch (spvInst i)) is a xs) ts vs m ≡ goTo W bs (labelOf F first T K p) (getD ts (pick W (spvInst i) vs (length (d .term .targets))) 0) m
-          = text-way i a xs (labelOf F first T K p) ts vs m fk ∙ other-nth p i ts vs m (omega (arith, lm))
-          ∙ ap (λ (n : ℕ). goTo W bs (labelOf F first T K p) (getD ts (pick W (spvInst i) vs n) 0) m) lm in
-          subst (λ (y : Out (BlockState Val) (End Val)). MeetOut Wrote (pointWay F W (blockAt K) (selectBranch (spvInst i)) (d .term) vs (record { env = e; log = l })) y) (sym right)
-          (go-nth p d (pick W (spvInst i) vs (length (d .term .targets))) e f l fp (pick-lt W (spvInst i) vs (length (d .term .targets)) wf) r)
+          let right = branch-way (labelOf F first T K p) (wayInst branch is a xs) ts vs (record { env = f; log = l }) refl (omega (arith, length-map (d .term .targets) (labelOf F first T K))) in
+          subst (λ (y : Out (BlockState Val) (End Val)). MeetOut Wrote (pointWay F W (blockAt K) branch (d .term) vs (record { env = e; log = l })) y) (sym right) (go-nth p d 0 e f l fp (omega arith) r)
+      way-by p d vs e f l fp r (selectBranch boolCond) is a xs fk wf = selected p d vs e f l fp r (wayInst (selectBranch boolCond) is a xs) boolCond refl refl wf (λ ts m. refl)
+      way-by p d vs e f l fp r (selectBranch (spvInst i)) is a xs fk wf =
+          selected p d vs e f l fp r (wayInst (selectBranch (spvInst i)) is a xs) (spvInst i) (free-kind (i .opcode) Branch fk) (text-selects i is a xs fk) wf
+          (λ ts m. text-way i a xs (labelOf F first T K p) ts vs m fk)
       way-by p d vs e f l fp r (exitInvocation i) is a xs fk wf =
           let ts = map (labelOf F first T K) (d .term .targets) in
           let m : Mem Val ℕ = record { env = f; log = l } in
-          let right : wayBy W bs (labelOf F first T K p) (wayInst (exitInvocation i) is a xs) ts vs m ≡ halt (exited i vs)
-          = text-way i a xs (labelOf F first T K p) ts vs m fk ∙ other-none p i (d .term .targets) vs m wf in
+          let lp = labelOf F first T K p in
+          let right : wayBy W bs lp (wayInst (exitInvocation i) is a xs) ts vs m ≡ halt (exited i vs)
+          = text-way i a xs lp ts vs m fk ∙ exit-way lp (wayInst (exitInvocation i) is a xs) (d .term .targets) vs m wf in
           subst (λ (y : Out (BlockState Val) (End Val)). MeetOut Wrote (halt (exited i vs)) y) (sym right) out-halt
 
       run-way : (p : CfgPoint) (d : BlockLifting) (e : Value → Option Val) (f : ℕ → Option Val) (l : List (Executed Val)) → find eqPoint p K ≡ some d → Rel e f
