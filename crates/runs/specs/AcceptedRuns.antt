@@ -11,21 +11,24 @@ use Rattle.lifting.specs.Lists.{find, gather, tabulate}
 use Rattle.lifting.specs.Ast.{Func, Node, Value, const, dataInstOutput, loop, nodeOutput, regionInput}
 use Rattle.lifting.specs.Parts.{constOf, hasBody, nodeOf, opOf, outsOf, regionOf, valsOr}
 use Rattle.lifting.specs.Order.{roots}
-use Rattle.lifting.specs.Points.{BlockLifting, CfgPoint, Table, blockOr, edgeOf, eqPoint}
+use Rattle.lifting.specs.Points.{BlockLifting, CfgPoint, Table, blockAt, blockOr, edgeOf, eqPoint}
 use Rattle.lifting.specs.Walk.{Place, always, entryBlock, inBlock, inNode, top, walkOf}
 use Rattle.lifting.specs.Absorb.{absorb, kept, useCount}
 use Rattle.lifting.specs.Ids.{names, paramKeys, phiKeys, resultOf, value}
 use Rattle.lifting.specs.Instructions.{listOf}
-use Rattle.lifting.specs.World.{World}
+use Rattle.lifting.specs.Machine.{Ends}
+use Rattle.lifting.specs.World.{Executed, World, stuck}
+use Rattle.lifting.specs.BlockRun.{blockLog, blockStart, blockStep, parts}
 use Rattle.lifting.specs.Runs.{AlikeRuns, TrueConstants}
 use Rattle.runs.specs.Members.{All, In, all-from, all-in, here, in-gather, in-left, in-map, in-right, there}
 use Rattle.runs.specs.Accepted.{Accepted, Settled, a-const, a-param, a-phi, a-result}
+use Rattle.runs.specs.Stuck.{points-go-on}
 use Rattle.runs.specs.Structure.{Counted}
 use Rattle.runs.specs.AbsorbCount.{in-labels}
 use Rattle.runs.specs.AbsorbAll.{Kept, absorb-kept, find-keep}
 use Rattle.runs.specs.Ids.{Known}
 use Rattle.runs.specs.EmitRun.{BlockOk, KnownResult, OpOk, Sound, all-find}
-use Rattle.runs.specs.Start.{param-named, regions-listing}
+use Rattle.runs.specs.Start.{kept-listing, param-named, regions-listing}
 use Rattle.runs.specs.Tour.{find-unique}
 use Rattle.runs.specs.Tests.{find-in}
 use Rattle.runs.specs.Each.{every-point}
@@ -214,3 +217,8 @@ module _ (F : Func) (first : ℕ) (ok : Accepted F first) (body : hasBody (F .re
     accepted-alike true41 =
         regions-listing F first T (tidy F shaped) sound W counted
         (laid F shaped) (λ c h. true41 c (always-41 c h))
+
+    -- the blocks of its list are never stuck, whatever the values of its constants
+    pub blocks-go-on : (l : List (Executed Val)) → Ends (blockStep W (parts (listOf F first) .blocks)) (blockLog W (parts (listOf F first) .blocks)) (blockStart W (F .consts) (listOf F first)) stuck l → ⊥
+    unfolding listOf
+    blocks-go-on l x = points-go-on F W (blockAt K) l (kept-listing F first T (tidy F shaped) sound W .end-left stuck l x)

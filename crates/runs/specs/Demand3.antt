@@ -1,6 +1,7 @@
 -- Demand 3, whole, about the words that are written: for every accepted text with a body and every world, running the regions and running the
--- blocks of the list reach the same lists of executed instructions, and one ends exactly if the other does, alike. And demand 2's claims
--- about every accepted text: new ids run on without repeats, and each phi has one pair for each kept block with an edge to its block.
+-- blocks of the list reach the same lists of executed instructions, and one ends exactly if the other does, alike; neither is ever stuck.
+-- And demand 2's claims about every accepted text: new ids run on without repeats, and each phi has one pair for each kept block with an
+-- edge to its block.
 -- No hypothesis beyond the answer: what the runs need follows from the refusals' own tests (`accepted-of`). Assumes nothing.
 use mathlib.Core.Path.{_≡_, sym, ap, _∙_, subst}
 use mathlib.Core.Bool.{true}
@@ -18,13 +19,17 @@ use Rattle.lifting.specs.Ids.{names, newId, theFunction}
 use Rattle.lifting.specs.Instructions.{Instruction, listOf, pairs}
 use Rattle.lifting.specs.Words.{list-from, listFrom}
 use Rattle.lifting.specs.Answer.{answer, listed}
-use Rattle.lifting.specs.World.{World}
+use Rattle.lifting.specs.Machine.{Ends}
+use Rattle.lifting.specs.World.{Executed, World, stuck}
+use Rattle.lifting.specs.RegionRun.{regionLog, regionStart, regionStep}
+use Rattle.lifting.specs.BlockRun.{blockLog, blockStart, blockStep, parts}
 use Rattle.lifting.specs.Runs.{AlikeRuns, TrueConstants}
 use Rattle.lifting.specs.Witness.{text}
 use Rattle.runs.specs.Members.{NoDup}
 use Rattle.runs.specs.Accepted.{Accepted}
 use Rattle.runs.specs.Places.{next}
-use Rattle.runs.specs.AcceptedRuns.{accepted-alike, someWorld, sound}
+use Rattle.runs.specs.Stuck.{regions-go-on}
+use Rattle.runs.specs.AcceptedRuns.{accepted-alike, blocks-go-on, someWorld, sound}
 use Rattle.runs.specs.Numbering.{ids-in-order, ids-up-to, no-name-twice, no-point-twice}
 use Rattle.runs.specs.Pairs.{OnePairEach, one-pair-each}
 use Rattle.runs.specs.Passes.{Passed, accepted-of, answer-passes}
@@ -38,9 +43,17 @@ module _ (text : List ℕ) (first func work out : ℕ) (ws : List ℕ) (next : �
   pub accepted : Accepted F first
   accepted = accepted-of F first body (passed .references) (passed .tree) (passed .counts) (passed .control) (passed .ids) (passed .values)
 
+  list-is : listFrom ws ≡ listOf F first
+  list-is = ap listFrom (passed .words-are) ∙ list-from (listOf F first)
+
   pub demand-3 : {Val : Type 0} (W : World Val) → TrueConstants F W → AlikeRuns F (listFrom ws) W
-  demand-3 W true41 =
-      subst (λ (l : List Instruction). AlikeRuns F l W) (sym (ap listFrom (passed .words-are) ∙ list-from (listOf F first))) (accepted-alike F first accepted body W true41)
+  demand-3 W true41 = subst (λ (l : List Instruction). AlikeRuns F l W) (sym list-is) (accepted-alike F first accepted body W true41)
+
+  -- neither run is ever stuck, whatever the values of constants
+  pub never-stuck : {Val : Type 0} (W : World Val) (l : List (Executed Val))
+      → (Ends (regionStep F W) (regionLog F W) (regionStart F W) stuck l → ⊥)
+      × (Ends (blockStep W (parts (listFrom ws) .blocks)) (blockLog W (parts (listFrom ws) .blocks)) (blockStart W (F .consts) (listFrom ws)) stuck l → ⊥)
+  never-stuck W l = (regions-go-on F W l, rw list-is (blocks-go-on F first accepted body W l))
 
   abbrev T : Table
   T = walkOf F

@@ -5,6 +5,7 @@ pub mod Refers
 pub mod Fits
 pub mod Simulation
 pub mod PointRun
+pub mod Stuck
 pub mod Places
 pub mod Structure
 pub mod AbsorbRun
