@@ -27,3 +27,5 @@ pub mod BlockRun
 pub mod Runs
 pub mod Starred
 pub mod Witness
+pub mod Endings
+pub mod LastLap

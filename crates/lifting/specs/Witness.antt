@@ -43,7 +43,7 @@ pub is-listed : answer text 10 scratchWords scratchWords scratchWords ≡ listed
 unfolding answer text writtenWords
 is-listed = refl
 
-abbrev orEmpty : Option Func → Func
+abbrev pub orEmpty : Option Func → Func
 orEmpty none = record { attrs = 0; ret = 0; type = 0; control = 0; consts = []; params = []; regions = []; nodes = []; ops = []; ctrls = [] }
 orEmpty (some F) = F
 
@@ -67,20 +67,21 @@ world = record {
   rule-lt = λ i vs n h. h;
 }
 
-abbrev done : ℕ → ℕ → Option ℕ → List ℕ → Executed ℕ
+abbrev pub done : ℕ → ℕ → Option ℕ → List ℕ → Executed ℕ
 done op t callee vs = record { opcode = op; attrs = 0; type = t; imms = []; callee = callee; vals = vs }
 
 -- the first lap, the second with the values swapped, the second case, and a call with what it gave
 abbrev executed : List (Executed ℕ)
 executed = done 128 4 none (8 ∷ 9 ∷ []) ∷ done 128 4 none (9 ∷ 8 ∷ []) ∷ done 129 4 none (9 ∷ []) ∷ done 57 0 (some 7) (12 ∷ []) ∷ []
 
-abbrev Comes : {S : Type 0} → (S → Out S (End ℕ)) → (S → List (Executed ℕ)) → S → Type 0
-Comes step log s = (log (after step 40 s) ≡ executed) × (step (after step 40 s) ≡ halt (returned (12 ∷ [])))
+abbrev pub Comes : {S : Type 0} → (S → Out S (End ℕ)) → (S → List (Executed ℕ)) → S → List (Executed ℕ) → End ℕ → Type 0
+Comes step log s l h = (log (after step 40 s) ≡ l) × (step (after step 40 s) ≡ halt h)
 
-pub regions-come : Comes (regionStep function world) (regionLog function world) (regionStart function world)
+pub regions-come : Comes (regionStep function world) (regionLog function world) (regionStart function world) executed (returned (12 ∷ []))
 unfolding function world eqValue ℕ-discrete
 regions-come = (refl, refl)
 
 pub blocks-come : Comes (blockStep world (parts (listFrom writtenWords) .blocks)) (blockLog world (parts (listFrom writtenWords) .blocks)) (blockStart world (function .consts) (listFrom writtenWords))
+    executed (returned (12 ∷ []))
 unfolding function world listFrom writtenWords ℕ-discrete
 blocks-come = (refl, refl)
