@@ -3,6 +3,8 @@
 --     lit, num           a literal; a number after one byte
 --     seq, alt, many     one after the other; one or the other; any number of the one, then the other
 --     view, same         the format of another type
+-- To believe: `Ending` and `Format`, and of each format which values it is for (`Ok`) and what it prints (`print`). What it reads follows
+-- from these by the laws in the record, `sound` and `full`; the rest of this file proves them.
 use mathlib.Core.Path.{_≡_, refl, sym, ap, subst, _∙_}
 use mathlib.Core.List.{List, [], _∷_, _++_, append-assoc}
 use mathlib.Core.Bool.{true, false, true≢false}

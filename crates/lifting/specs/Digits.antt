@@ -2,6 +2,7 @@
 -- bytes. Assumes nothing.
 --     number-sound     what is read is what stands there, printed, and is below the bound
 --     number-full      a number below the bound that is printed before anything but a digit is read
+-- To believe: `wordBound`, and `digits` with `digitsTo`. The reader, `number`, is held to them by the two laws; the rest proves these.
 use mathlib.Core.Path.{_≡_, refl, ap, subst, _∙_}
 use mathlib.Core.List.{List, [], _∷_, _++_, append-assoc}
 use mathlib.Core.Bool.{Bool, true, false, false≢true}

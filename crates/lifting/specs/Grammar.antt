@@ -2,6 +2,9 @@
 -- other. Assumes nothing.
 --     print, read, Fits                              the printer, the reader, and which functions have a text
 --     print-of-read, read-of-print, read-exactly     each is the other's inverse
+-- To believe: what each form prints, up to `text`, and `Fits`. Of the two functions that `same` and `view` take, the second (`of..`) takes a
+-- value apart to be printed. `read` is held to these by `read-exactly`; the first functions (`to..`) and the laws on the way (`-to-of`,
+-- `-of-to`, `-apart`) are there to prove that.
 use mathlib.Core.Path.{_≡_, refl, sym, subst}
 use mathlib.Core.List.{List, [], _∷_, _++_, append-assoc, cons≢nil}
 use mathlib.Core.Option.{Option, none, some}

@@ -63,6 +63,7 @@ blockOr (some b) = b
 abbrev pub blockAt : Table → CfgPoint → BlockLifting
 blockAt T p = blockOr (find eqPoint p T)
 
--- the values that move along the edge from a way out to q
+-- The values that move along the edge from a way out to q: those that it has for q, else q's defaults. Only a loop's entry has defaults, its
+-- inits: what comes before a loop goes on to it as to any node (`straight`), with no values of its own.
 abbrev pub edgeOf : Table → Terminator → CfgPoint → List Value
 edgeOf T t q = valsOr (find eqPoint q (t .vals)) (blockAt T q .defaults)

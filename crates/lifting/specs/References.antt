@@ -12,7 +12,8 @@ use Rattle.lifting.specs.Ast.{Value, const, regionInput, nodeOutput, dat
 use Rattle.lifting.specs.Parts.{regionOf, nodeOf, opOf, outsOf, values, insts, nodeList, opList, childList, ctrlRegions, requiredIds}
 use Rattle.lifting.specs.Limits.{maxOpcode, maxImmKind}
 
--- a value names something: a constant, an input, a select's output, the result of an op that has one
+-- A value names something: a constant, an input, a select's output, the result of an op that has one. A line that is not there holds nothing
+-- (Parts), so asking for its input, output or result also asks that it be there.
 abbrev pub named : Func → Value → Bool
 named F (const n) = ltb n (length (F .consts))
 named F (regionInput r i) = ltb i (length (regionOf F r .ins))

@@ -1,4 +1,5 @@
 -- Document 01, 'The instruction list': the list as words, and the words read back. Assumes nothing.
+-- To believe: `words`, with `instWords` and `immWords`. `listFrom` is held to them by the law `list-from`; the rest proves it.
 use mathlib.Core.Path.{_≡_, refl, ap, _∙_}
 use mathlib.Core.List.{List, [], _∷_, _++_, append-assoc}
 use Prim.Native.Nat.{ℕ, zero, suc, _≤_}

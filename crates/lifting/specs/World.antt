@@ -15,6 +15,8 @@ pub record World (Val : Type 0) : Type 0 where
   pub arg : ℕ → Val
   pub constant : ℕ → Val
   pub result : ℕ → Val
+  -- what a loop's condition and a `bool` selection ask of a value; nothing ties it to opcodes but `TrueConstants` (Runs), by which constants
+  -- of opcode 41 are true
   pub truth : Val → Bool
   pub rule : Inst → List Val → ℕ → ℕ
   pub rule-lt : (i : Inst) (vs : List Val) (n : ℕ) → 0 < n → rule i vs n < n
