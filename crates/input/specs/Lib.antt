@@ -1,0 +1,2 @@
+-- When it is known what is printed for an input.
+pub mod Known
