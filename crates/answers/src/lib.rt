@@ -7,6 +7,8 @@ ghost use Prim.Native.Nat.{_+_, _-_, _≤_, _<_, min};
 ghost use lib.ListN.{length, take, drop};
 ghost use lib.Seq.{paste};
 ghost use Rattle.io.specs.Counts.{Counts};
+ghost use Rattle.lifting.specs.Answer.{parse};
+ghost use Rattle.reader.specs.Parse.{funcAfter, workAfter};
 ghost use Rattle.answers.specs.Line.{digitOf, lineOf};
 ghost use Rattle.answers.specs.Batch.{percentAfter, matchedAfter, cutOf, fitting};
 
@@ -57,7 +59,10 @@ pub fn line(parsed: Parsed) -> Printed
 }
 
 // Prints the line for a text.
-pub fn tell(text: &[u8], func: &mut [u32], work: &mut [u32]) {
+pub fn tell(text: &[u8], func: &mut [u32], work: &mut [u32])
+    ensures func_slice { λ _. ⌜ now (func .exit) ≡ funcAfter (parse (now (text .entry)) (length (now (func .entry))) (length (now (work .entry)))) (now (func .entry)) ⌝ }
+    ensures work_slice { λ _. ⌜ now (work .exit) ≡ workAfter (parse (now (text .entry)) (length (now (func .entry))) (length (now (work .entry)))) (now (work .entry)) ⌝ }
+{
     let l = line(reader::parse(text, func, work));
     let n = l.len;
     let bytes = l.bytes;
@@ -153,19 +158,4 @@ pub fn unmarked(text: &[u8], len: usize) -> &[u8]
     }
     let n = len - MARK;
     &text[..n]
-}
-
-// Reads once, and answers whether there may be more.
-fn skip_some() -> bool {
-    let mut rest = io::large_buffer();
-    0 < libc::read(0, &mut rest)
-}
-
-// Reads the input to its end, so that whoever writes it isn't stopped. A proved loop has to end, so it counts its turns down, from a number that
-// no run uses up.
-pub fn skip_rest() {
-    let mut turns = u64::MAX;
-    while turns > 0 && skip_some() {
-        turns -= 1;
-    }
 }

@@ -1,8 +1,10 @@
 // Reads a batch on standard input, texts that each end with a line `%%`, and prints what is asked of each. What follows the last such line is no text.
 ghost use mathlib.Core.Path.{_≡_};
-ghost use Prim.Native.Nat.{_≤_};
+ghost use Prim.Native.Nat.{_+_, _≤_};
 ghost use lib.ListN.{length};
+ghost use Rattle.printed.specs.Cut.{inputRoom};
 ghost use Rattle.batch.specs.Held.{heldOf, heldAfter, lenAfter};
+ghost use Rattle.batch.specs.Kept.{mark};
 
 // The reader's answer; the kept blocks; or, of an input with a first line, the list.
 pub enum What {
@@ -101,8 +103,11 @@ fn some_read(what: What, text: &mut [u8], state: State, func: &mut [u32], work: 
     taken(what, &batch[..n], text, state, func, work)
 }
 
-// A proved loop has to end, so it counts its turns down, from a number that no run uses up.
-fn all_read(what: What, text: &mut [u8], func: &mut [u32], work: &mut [u32]) {
+// A proved loop has to end, so it counts its turns down, from a number that no run uses up. There is room for an input as far as it decides what is
+// printed, and for its mark: what does not fit changes nothing.
+fn all_read(what: What, text: &mut [u8], func: &mut [u32], work: &mut [u32])
+    requires { ⌜ inputRoom + length mark ≤ length (now text) ⌝ }
+{
     let mut turns = u64::MAX;
     let mut state = State {
         len: 0,
@@ -115,10 +120,11 @@ fn all_read(what: What, text: &mut [u8], func: &mut [u32], work: &mut [u32]) {
     }
 }
 
+const ROOM: usize = input::INPUT + 3;
+
 // All texts of the batch.
 pub fn run(what: What) {
-    // The longest first line, a byte more than a text may have, and its mark: what follows changes nothing.
-    let mut text = [0u8; 32790];
+    let mut text = [0u8; ROOM];
     let mut func = [0u32; 16384];
     let mut work = [0u32; 16384];
     all_read(what, &mut text, &mut func, &mut work);

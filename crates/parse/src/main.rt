@@ -1,11 +1,9 @@
-// Reads one text on standard input and prints the number of its refusal, or that it is accepted.
+// Reads one text on standard input, as far as it decides, and prints the number of its refusal, or that it is accepted.
 
 fn main() {
-    // A byte more than a text may have: what follows changes nothing.
-    let mut text = [0u8; 32769];
+    let mut text = [0u8; input::TEXT];
     let mut func = [0u32; 16384];
     let mut work = [0u32; 16384];
-    let n = io::read_full(0, &mut text);
-    answers::skip_rest();
+    let n = input::read_text(&mut text);
     answers::tell(&text[..n], &mut func, &mut work);
 }

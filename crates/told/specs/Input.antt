@@ -1,7 +1,9 @@
 -- What the program prints for an input: the list or the refusal of the text behind the line `(first N)`. Assumes nothing.
+--     bytes-cut, leaves-cut, bytes-known    how much of an input decides
 --     bad-line, good-line, bad-leaves, good-leaves, line-low    by the first line
 --     lifted-bytes, lifted-stands    what the entry tells and leaves in the output slice gives these bytes
 use mathlib.Core.Path.{_≡_, refl, sym, ap, subst, _∙_}
+use mathlib.Core.Bool.{true}
 use mathlib.Core.List.{List, _++_}
 use mathlib.Core.Option.{Option, none, some}
 use Prim.Native.Nat.{ℕ, _≤_}
@@ -18,6 +20,8 @@ use Rattle.cursor.specs.Read.{Moves, Reads, rest}
 use Rattle.printed.specs.declared.First.{First}
 use Rattle.printed.specs.declared.First.the-variants.{At, Bad}
 use Rattle.printed.specs.Opening.{firstLine, firstOf}
+use Rattle.printed.specs.Cut.{ByText, answer-cut, input-cut, inputRoom}
+use Rattle.input.specs.Known.{known-decides, knownBy}
 
 -- It prints opcode, attributes, result type, result id, immediates, ids. A refusal prints `(refused N)`.
 abbrev pub answerBytes : Answer → List ℕ
@@ -41,6 +45,34 @@ lineLeaves g (some x) func work out w = g (answer (x .1) (x .0) func work out) w
 unfoldable pub inputLeaves : (Answer → List ℕ → List ℕ) → List ℕ → ℕ → ℕ → ℕ → List ℕ → List ℕ
 unfolding firstLine
 inputLeaves g input func work out w = lineLeaves g (firstLine .read input) func work out w
+
+-- The program lends 16,384 words for each slice.
+abbrev pub outWords : ℕ
+outWords = 16384
+
+-- ---- how much of an input decides
+
+module _ (func work out : ℕ) where
+  bytes-by-text : ByText (λ (o : Option (ℕ × List ℕ)). lineBytes o func work out)
+  bytes-by-text n k text h = ap answerBytes (answer-cut k h text n func work out)
+
+  leaves-by-text : (g : Answer → List ℕ → List ℕ) (w : List ℕ) → ByText (λ (o : Option (ℕ × List ℕ)). lineLeaves g o func work out w)
+  leaves-by-text g w n k text h = ap (λ (a : Answer). g a w) (answer-cut k h text n func work out)
+
+  -- What is printed for an input is what is printed for its first bytes, as many as decide or more; and so is what the slices hold then.
+  pub bytes-cut : (k : ℕ) → inputRoom ≤ k → (input : List ℕ) → inputBytes (take k input) func work out ≡ inputBytes input func work out
+  unfolding inputBytes
+  bytes-cut = input-cut (λ (o : Option (ℕ × List ℕ)). lineBytes o func work out) bytes-by-text
+
+  pub leaves-cut : (g : Answer → List ℕ → List ℕ) (w : List ℕ) (k : ℕ) → inputRoom ≤ k → (input : List ℕ)
+      → inputLeaves g (take k input) func work out w ≡ inputLeaves g input func work out w
+  unfolding inputLeaves
+  leaves-cut g w = input-cut (λ (o : Option (ℕ × List ℕ)). lineLeaves g o func work out w) (leaves-by-text g w)
+
+  -- What is printed is known when `input::known` says so: nothing that follows changes it.
+  pub bytes-known : (input : List ℕ) → knownBy input ≡ true → (more : List ℕ) → inputBytes input func work out ≡ inputBytes (input ++ more) func work out
+  unfolding inputBytes
+  bytes-known = known-decides (λ (o : Option (ℕ × List ℕ)). lineBytes o func work out) bytes-by-text
 
 -- what the entry told, with the words of the output slice
 abbrev pub liftedBytes : Lifted → List ℕ → List ℕ

@@ -11,7 +11,7 @@ ghost use lib.ListN.{length};
 ghost use mathlib.Core.Path.{_≡_};
 ghost use Rattle.lifting.specs.Answer.{answer, outAfter, scratchAfter};
 ghost use Rattle.printed.specs.Put.{Put};
-ghost use Rattle.told.specs.Input.{Stands, answerBytes, inputBytes, inputLeaves, liftedBytes};
+ghost use Rattle.told.specs.Input.{Stands, answerBytes, inputBytes, inputLeaves, liftedBytes, outWords};
 
 // The lines of the list in the output slice, or the refusal's line.
 fn put_lifted(bytes: &mut [u8], r: Lifted, out: &[u32]) -> usize
@@ -62,8 +62,11 @@ pub fn put_input(
     put_text(bytes, &input[at..], first, func, work, out)
 }
 
-// Prints the list of an input, or its refusal.
-pub fn tell(input: &[u8], func: &mut [u32], work: &mut [u32]) {
+// Prints the list of an input, or its refusal, with an output slice of 16,384 words.
+pub fn tell(input: &[u8], func: &mut [u32], work: &mut [u32])
+    ensures func_slice { λ _. ⌜ now (func .exit) ≡ inputLeaves scratchAfter (now (input .entry)) (length (now (func .entry))) (length (now (work .entry))) outWords (now (func .entry)) ⌝ }
+    ensures work_slice { λ _. ⌜ now (work .exit) ≡ inputLeaves scratchAfter (now (input .entry)) (length (now (func .entry))) (length (now (work .entry))) outWords (now (work .entry)) ⌝ }
+{
     let mut out = [0u32; 16384];
     // Twelve bytes for each word of the output slice, and more than a refusal's line has.
     let mut bytes = [0u8; 196640];
