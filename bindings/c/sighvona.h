@@ -1,15 +1,23 @@
 /* Sighvona: from the region text of one function to SPIR-V instructions.
  *
  * The library is target/staticlib/libsighvona.a, which `rt staticlib sighvona` writes (x86-64, System V). It is proved that for every text,
- * first id and set of slices a call gives what its definition gives, and nothing is asked of the caller but that every pointer is valid for
- * its count, that the slices lent for writing, `words` and `next` do not overlap with one another or with the text, and that `words` and
- * `next` are not null. A slice of count 0 needs no memory. The library keeps nothing between calls, allocates nothing and calls nothing but
- * memset, so calls with slices of their own may run at once. */
+ * first id and set of slices a call gives what its definition gives, and nothing is asked of the caller but that every pointer is valid and
+ * aligned for its count, that the slices lent for writing, `words` and `next` do not overlap with one another or with the text, and that
+ * `words` and `next` are not null. A slice of count 0 needs no memory. The library keeps nothing between calls, allocates nothing and calls
+ * nothing but memset, so calls with slices of their own may run at once.
+ *
+ * For C99 and later, and for C++. */
 #ifndef SIGHVONA_H
 #define SIGHVONA_H
 
 #include <stddef.h>
 #include <stdint.h>
+
+/* The version of this header, and the number of it that `sighvona_version` gives for the library's. Macros, so that #if can ask. */
+#define SIGHVONA_VERSION_MAJOR 0
+#define SIGHVONA_VERSION_MINOR 2
+#define SIGHVONA_VERSION_PATCH 0
+#define SIGHVONA_VERSION (SIGHVONA_VERSION_MAJOR * 65536u + SIGHVONA_VERSION_MINOR * 256u + SIGHVONA_VERSION_PATCH)
 
 #ifdef __cplusplus
 extern "C" {
@@ -21,11 +29,13 @@ enum {
     /* the most bytes of a text */
     SIGHVONA_TEXT_BYTES = 32768,
     /* the highest id that is given */
-    SIGHVONA_HIGHEST_ID = 4194303
+    SIGHVONA_HIGHEST_ID = 4194303,
+    /* No list has more words, which is proved (crates/sizes, `list-bound`): with an output slice of so many, refusal 11 never comes. */
+    SIGHVONA_MAX_WORDS = 24000
 };
 
 /* What a call answers: 0, or the number of the refusal in document 01. They are looked for in the order 8, 1 to 7, 9, 10, 11, each over the
- * whole text before the next, so the answer is the first that applies. */
+ * whole text before the next, so the answer is the first that applies. Later versions may have more numbers. */
 enum sighvona_answer {
     SIGHVONA_LIFTED = 0,
     /* the text has over 32,768 bytes */
@@ -58,7 +68,7 @@ enum sighvona_answer {
     SIGHVONA_OUTPUT = 11
 };
 
-/* Lifts a text.
+/* Lifts a text: SIGHVONA_LIFTED, which is 0, or the number of the refusal.
  *
  *   text, text_len    the text, without the line `(first N)` that the program `lift` reads before it; only read
  *   first             the first new id
@@ -68,21 +78,78 @@ enum sighvona_answer {
  *   words             how many words the list has
  *   next              the next free id: the new ids run from `first` to one below it
  *
- * After 0 the list stands in the first `*words` words of `out`, and the words beyond it are what they were. Each instruction is words:
- * opcode, attributes, result type id, result id (0 for none), the count of immediates and three words each (kind, operand kind, word), the
- * count of ids, the ids. Their order: function, parameters; per block its label, phis, instructions, merge, way out; function end.
+ * What they hold at the end:
  *
- * After a refusal `out`, `*words` and `*next` are what they were.
+ *   answer            *words                  *next           out                                        func, work
+ *   0                 the list's words        the next id     the list, then what was there beyond it    zeros
+ *   11                the list's words        what it was     what it was                                zeros
+ *   1 to 7, 9, 10     what it was             what it was     what it was                                zeros
+ *   8                 what it was             what it was     what it was                                what they were
  *
- * All words of both scratch slices are 0 at the end, those beyond 16,384 too, except after SIGHVONA_SCRATCH, when they are what they were. */
+ * So after 11 a call with an output slice of *words words gives the list, and a first call may lend none (out_len 0) to ask for the count.
+ * All words of the scratch slices are zeros, those beyond 16,384 too.
+ *
+ * Each instruction of the list is words: opcode, attributes, result type id (0 for none), result id (0 for none), the count of immediates
+ * and three words each (kind, operand kind, word), the count of ids, the ids. Their order: function, parameters; per block its label, phis,
+ * instructions, merge, way out; function end. `sighvona_next` steps through them. */
 uint32_t sighvona_lift(const uint8_t *text, size_t text_len, uint32_t first, uint32_t *func, size_t func_len, uint32_t *work,
                        size_t work_len, uint32_t *out, size_t out_len, size_t *words, uint32_t *next);
 
-/* Reads a text and lifts nothing: 0, or a refusal, SIGHVONA_SCRATCH or 1 to 7. The parameters are those of `sighvona_lift`.
+/* Reads a text and lifts nothing: 0 if it is acceptable by 8 and 1 to 7, else the number of the first of these refusals that applies. The
+ * parameters are those of `sighvona_lift`.
  *
- * After 0 the tables of the text stand in `func`, in a form of the library's own, and `work` is zeros; after a refusal both slices are as
- * after `sighvona_lift`. */
+ * Both scratch slices end as zeros, after 0 too, except after 8, when they are what they were. */
 uint32_t sighvona_read(const uint8_t *text, size_t text_len, uint32_t *func, size_t func_len, uint32_t *work, size_t work_len);
+
+/* The library's version: major * 65,536 + minor * 256 + patch. If it is not SIGHVONA_VERSION, this header is another version's. */
+uint32_t sighvona_version(void);
+
+/* An instruction of a list. The pointers point into the list. */
+struct sighvona_inst {
+    uint32_t opcode;
+    uint32_t attributes;       /* 0 is the default set */
+    uint32_t result_type;      /* 0 for none */
+    uint32_t result;           /* 0 for none */
+    uint32_t immediates;       /* how many immediates */
+    const uint32_t *immediate; /* three words each: kind (0 short, 1 long start, 2 long continued), operand kind, word */
+    uint32_t ids;              /* how many ids */
+    const uint32_t *id;
+};
+
+/* Reads the instruction that starts at word `at` of a list of `words` words, and gives the place behind it. Gives 0, and leaves `*inst`
+ * alone, where no whole instruction is: at the end, or where the words are cut short. No word beyond the list is read, whatever the words
+ * are. To step through a list:
+ *
+ *   struct sighvona_inst inst;
+ *   size_t at = 0, after;
+ *   for (; (after = sighvona_next(out, words, at, &inst)) != 0; at = after) { .. }
+ *
+ * At the end `at` is `words`, as a list is whole instructions. */
+static inline size_t sighvona_next(const uint32_t *list, size_t words, size_t at, struct sighvona_inst *inst) {
+    size_t more, immediates, ids;
+    /* an instruction has six words, and `more` those of its immediates and ids */
+    if (at > words || words - at < 6) {
+        return 0;
+    }
+    more = words - at - 6;
+    if (list[at + 4] > more / 3) {
+        return 0;
+    }
+    immediates = 3 * (size_t)list[at + 4];
+    if (list[at + 5 + immediates] > more - immediates) {
+        return 0;
+    }
+    ids = list[at + 5 + immediates];
+    inst->opcode = list[at];
+    inst->attributes = list[at + 1];
+    inst->result_type = list[at + 2];
+    inst->result = list[at + 3];
+    inst->immediates = list[at + 4];
+    inst->immediate = list + at + 5;
+    inst->ids = list[at + 5 + immediates];
+    inst->id = list + at + 6 + immediates;
+    return at + 6 + immediates + ids;
+}
 
 #ifdef __cplusplus
 }
