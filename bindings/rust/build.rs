@@ -3,17 +3,18 @@
 
 use std::path::{Path, PathBuf};
 
-fn main() {
-    println!("cargo::rerun-if-env-changed=SIGHVONA_LIB_DIR");
+fn main() -> Result<(), String> {
+    println!("cargo:rerun-if-env-changed=SIGHVONA_LIB_DIR");
     let folder = match std::env::var_os("SIGHVONA_LIB_DIR") {
         Some(folder) => PathBuf::from(folder),
         None => Path::new(env!("CARGO_MANIFEST_DIR")).join("../../target/staticlib"),
     };
     let archive = folder.join("libsighvona.a");
+    println!("cargo:rerun-if-changed={}", archive.display());
     if !archive.exists() {
-        println!("cargo::error={} is missing: run `rt staticlib sighvona`", archive.display());
+        return Err(format!("{} is missing: run `rt staticlib sighvona`", archive.display()));
     }
-    println!("cargo::rustc-link-search=native={}", folder.display());
-    println!("cargo::rustc-link-lib=static=sighvona");
-    println!("cargo::rerun-if-changed={}", archive.display());
+    println!("cargo:rustc-link-search=native={}", folder.display());
+    println!("cargo:rustc-link-lib=static=sighvona");
+    Ok(())
 }

@@ -7,7 +7,7 @@
 //! ```
 //! let text = b"(func 0 2 3 0)\n(region (in) (nodes) (out))\n";
 //! let mut scratch = sighvona::Scratch::new();
-//! let mut out = [0; 64];
+//! let mut out = vec![0; sighvona::MAX_WORDS];
 //! let lifted = sighvona::lift(text, 10, &mut scratch, &mut out)?;
 //! let list = &out[..lifted.words];
 //! // Function with its control word and its type's id; Label; Return; FunctionEnd.
@@ -22,6 +22,8 @@
 //!     .concat()
 //! );
 //! assert_eq!(lifted.next, 12);
+//! let opcodes: Vec<u32> = sighvona::instructions(list).map(|inst| inst.opcode).collect();
+//! assert_eq!(opcodes, [54, 248, 253, 56]);
 //! # Ok::<(), sighvona::Refusal>(())
 //! ```
 //!
@@ -30,19 +32,34 @@
 //! Each instruction is words: opcode, attributes, result type id, result id (0 for none), the count
 //! of immediates and three words for each (kind, operand kind, word), the count of ids and the ids.
 //! The order is function, parameters, each block (label, phis, instructions, merge, way out),
-//! function end.
+//! function end. [`instructions`] takes them apart.
 
 #![warn(missing_docs)]
 
+mod list;
 pub mod sys;
 
+pub use list::{instructions, Immediate, Instruction, Instructions};
+
 use std::fmt;
+
+/// The version that this crate is for: major * 65,536 + minor * 256 + patch. [`library_version`]
+/// tells that of the archive that was linked.
+pub const VERSION: u32 = version(0, 2, 0);
+
+const fn version(major: u32, minor: u32, patch: u32) -> u32 {
+    major * 65_536 + minor * 256 + patch
+}
 
 /// The words that each scratch slice must have at least.
 pub const SCRATCH_WORDS: usize = 16_384;
 
 /// The longest text that is not refused.
 pub const TEXT_BYTES: usize = 32_768;
+
+/// No list has more words, which is proved (crates/sizes, `list-bound`): with an output slice of so
+/// many, [`Refusal::Output`] never comes.
+pub const MAX_WORDS: usize = 24_000;
 
 /// What an accepted call gives beside the list.
 #[derive(Clone, Copy, Debug, PartialEq, Eq)]
@@ -53,64 +70,79 @@ pub struct Lifted {
     pub next: u32,
 }
 
-/// Why there is no list. The numbers are those of the scope, document 01.
+/// Why there is no list. [`number`](Self::number) gives the number in the scope, document 01.
 ///
 /// They are looked for in the order 8, 1 to 7, 9, 10, 11, each over the whole text before the next,
 /// so the first that applies is given.
+///
+/// ```
+/// use sighvona::{lift, Refusal, Scratch};
+///
+/// let text = b"(func 0 2 3 0)\n(imported)\n";
+/// let mut scratch = Scratch::new();
+/// let refusal = lift(text, 3, &mut scratch, &mut []).unwrap_err();
+/// assert_eq!((refusal, refusal.number()), (Refusal::Ids, 9));
+///
+/// // Lend what is wanted.
+/// let mut out = vec![];
+/// if let Err(Refusal::Output { wanted }) = lift(text, 10, &mut scratch, &mut out) {
+///     out.resize(wanted, 0);
+/// }
+/// assert_eq!(lift(text, 10, &mut scratch, &mut out)?.words, out.len());
+/// # Ok::<(), Refusal>(())
+/// ```
 #[derive(Clone, Copy, Debug, PartialEq, Eq, Hash)]
-#[repr(u32)]
+#[non_exhaustive]
 pub enum Refusal {
-    /// The text has more than [`TEXT_BYTES`] bytes.
-    Long = 1,
-    /// The text is not of the forms, or is empty.
-    Forms = 2,
-    /// Over 128 regions, 128 nodes, 512 ops, 256 consts, 64 params, 2,048 values, 512 inputs and
+    /// 1: the text has more than [`TEXT_BYTES`] bytes.
+    Long,
+    /// 2: the text is not of the forms, or is empty.
+    Forms,
+    /// 3: over 128 regions, 128 nodes, 512 ops, 256 consts, 64 params, 2,048 values, 512 inputs and
     /// outs, 512 immediates or 512 ctrl targets.
-    Limits = 3,
-    /// A reference names nothing; an id is 0 or a const's id repeats; an opcode, an operand kind or
-    /// an immediate's kind is none, or an opcode is one that only lifting may give.
-    References = 4,
-    /// Nodes, ops and regions are no tree: each node, op and child region must stand in one place.
-    Tree = 5,
-    /// Unequal counts, as of a loop's inits and its body's inputs.
-    Counts = 6,
-    /// Something about ctrl lines, as a second one for a region, or a target that is a child.
-    Control = 7,
-    /// A scratch slice has fewer than [`SCRATCH_WORDS`] words. [`lift`] never gives this.
-    Scratch = 8,
-    /// The first id is 0 or not above every id in the text, or an id over 4,194,303 would be given.
-    Ids = 9,
-    /// A kept instruction uses a value that no kept block sets and that is neither a constant nor
-    /// a parameter.
-    Values = 10,
-    /// The output slice is shorter than the list.
-    Output = 11,
+    Limits,
+    /// 4: a reference names nothing; an id is 0 or a const's id repeats; an opcode, an operand kind
+    /// or an immediate's kind is none, or an opcode is one that only lifting may give.
+    References,
+    /// 5: nodes, ops and regions are no tree: each node, op and child region must stand in one
+    /// place.
+    Tree,
+    /// 6: unequal counts, as of a loop's inits and its body's inputs.
+    Counts,
+    /// 7: something about ctrl lines, as a second one for a region, or a target that is a child.
+    Control,
+    /// 8: a scratch slice has fewer than [`SCRATCH_WORDS`] words. [`lift`] and [`read`] never give
+    /// this, as a [`Scratch`] has enough.
+    Scratch,
+    /// 9: the first id is 0 or not above every id in the text, or an id over 4,194,303 would be
+    /// given.
+    Ids,
+    /// 10: a kept instruction uses a value that no kept block sets and that is neither a constant
+    /// nor a parameter.
+    Values,
+    /// 11: the output slice is shorter than the list.
+    Output {
+        /// How many words the list has. The same call with so many gives it.
+        wanted: usize,
+    },
 }
 
 impl Refusal {
-    /// All of them, by number.
-    pub const ALL: [Self; 11] = [
-        Self::Long,
-        Self::Forms,
-        Self::Limits,
-        Self::References,
-        Self::Tree,
-        Self::Counts,
-        Self::Control,
-        Self::Scratch,
-        Self::Ids,
-        Self::Values,
-        Self::Output,
-    ];
-
     /// Its number, 1 to 11.
     pub const fn number(self) -> u32 {
-        self as u32
-    }
-
-    /// The refusal of a number.
-    pub fn from_number(number: u32) -> Option<Self> {
-        Self::ALL.into_iter().find(|refusal| refusal.number() == number)
+        match self {
+            Self::Long => 1,
+            Self::Forms => 2,
+            Self::Limits => 3,
+            Self::References => 4,
+            Self::Tree => 5,
+            Self::Counts => 6,
+            Self::Control => 7,
+            Self::Scratch => 8,
+            Self::Ids => 9,
+            Self::Values => 10,
+            Self::Output { .. } => 11,
+        }
     }
 
     fn cause(self) -> &'static str {
@@ -125,21 +157,26 @@ impl Refusal {
             Self::Scratch => "a scratch slice is under 16,384 words",
             Self::Ids => "the first id is too low or too high",
             Self::Values => "an instruction uses a value that is not set",
-            Self::Output => "the output slice is shorter than the list",
+            Self::Output { .. } => "the output slice is shorter than the list",
         }
     }
 }
 
 impl fmt::Display for Refusal {
     fn fmt(&self, f: &mut fmt::Formatter<'_>) -> fmt::Result {
-        write!(f, "refusal {}: {}", self.number(), self.cause())
+        write!(f, "refusal {}: {}", self.number(), self.cause())?;
+        match self {
+            Self::Output { wanted } => write!(f, ", which has {wanted} words"),
+            _ => Ok(()),
+        }
     }
 }
 
 impl std::error::Error for Refusal {}
 
-/// The two scratch slices of [`lift`], [`SCRATCH_WORDS`] words each. What they hold before a call
-/// does not matter; after it they are zeros. One can serve any number of calls.
+/// The two scratch slices that [`lift`] and [`read`] are lent, [`SCRATCH_WORDS`] words each. What
+/// they hold before a call does not matter; after it they are zeros. One can serve any number of
+/// calls.
 #[derive(Clone)]
 pub struct Scratch {
     func: Box<[u32]>,
@@ -166,8 +203,20 @@ impl fmt::Debug for Scratch {
     }
 }
 
+/// The version of the library that was linked, a number as [`VERSION`]. If the two differ, the
+/// archive is not the one that this crate is for.
+pub fn library_version() -> u32 {
+    // SAFETY: it takes nothing and gives a number.
+    unsafe { sys::sighvona_version() }
+}
+
 /// Lifts a text, with new ids from `first` on. The list's words come first in `out`, and the words
-/// beyond it are left as they are; so is all of `out` on a refusal.
+/// beyond it are left as they are; so is all of `out` on a refusal. With [`MAX_WORDS`] words in
+/// `out` there is always room.
+///
+/// # Panics
+///
+/// If the library gives a number that this crate does not know, so is of another version.
 pub fn lift(
     text: &[u8],
     first: u32,
@@ -186,7 +235,7 @@ pub fn lift_in(
     work: &mut [u32],
     out: &mut [u32],
 ) -> Result<Lifted, Refusal> {
-    let mut lifted = Lifted { words: 0, next: 0 };
+    let (mut words, mut next) = (0, 0);
     // SAFETY: each pointer and count is that of a slice that is borrowed for the call, and what is
     // written to is borrowed by nobody else. The library asks for no more.
     let number = unsafe {
@@ -200,15 +249,24 @@ pub fn lift_in(
             work.len(),
             out.as_mut_ptr(),
             out.len(),
-            &mut lifted.words,
-            &mut lifted.next,
+            &mut words,
+            &mut next,
         )
     };
-    told(number).map(|()| lifted)
+    told(number, words).map(|()| Lifted { words, next })
 }
 
-/// Reads a text and lifts nothing: refusals 8 and 1 to 7. After an accepted text `func` holds the
-/// library's tables of it and `work` is zeros; after a refusal both are as after [`lift_in`].
+/// Reads a text and lifts nothing: whether refusals 1 to 7 let it pass.
+///
+/// # Panics
+///
+/// As [`lift`].
+pub fn read(text: &[u8], scratch: &mut Scratch) -> Result<(), Refusal> {
+    read_in(text, &mut scratch.func, &mut scratch.work)
+}
+
+/// [`read`] with scratch slices of the caller's. They end as after [`lift_in`]: as zeros, except
+/// after [`Refusal::Scratch`].
 pub fn read_in(text: &[u8], func: &mut [u32], work: &mut [u32]) -> Result<(), Refusal> {
     // SAFETY: as above.
     let number = unsafe {
@@ -221,13 +279,24 @@ pub fn read_in(text: &[u8], func: &mut [u32], work: &mut [u32]) -> Result<(), Re
             work.len(),
         )
     };
-    told(number)
+    told(number, 0)
 }
 
-/// What a call's number tells.
-fn told(number: u32) -> Result<(), Refusal> {
-    match number {
-        0 => Ok(()),
-        _ => Err(Refusal::from_number(number).expect("the library gives 0 to 11")),
-    }
+/// What a call's number tells, where `wanted` are the words that it counted.
+fn told(number: u32, wanted: usize) -> Result<(), Refusal> {
+    Err(match number {
+        0 => return Ok(()),
+        1 => Refusal::Long,
+        2 => Refusal::Forms,
+        3 => Refusal::Limits,
+        4 => Refusal::References,
+        5 => Refusal::Tree,
+        6 => Refusal::Counts,
+        7 => Refusal::Control,
+        8 => Refusal::Scratch,
+        9 => Refusal::Ids,
+        10 => Refusal::Values,
+        11 => Refusal::Output { wanted },
+        _ => panic!("answer {number} of version {}, for {VERSION}", library_version()),
+    })
 }

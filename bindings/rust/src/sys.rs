@@ -1,8 +1,9 @@
-//! The library's two functions as they are called. A slice is two arguments: where it starts, and
-//! how many elements it has. What is lent for writing must not overlap with anything else lent.
+//! The library's functions as they are called. A slice is two arguments: where it starts, and how
+//! many elements it has. What is lent for writing must not overlap with anything else lent.
 
-unsafe extern "C" {
-    /// Lifts a text: 0, or the number of the refusal. Writes `words` and `next` with 0 only.
+extern "C" {
+    /// Lifts a text: 0, or the number of the refusal. Writes `words` with 0 and with 11, when it is
+    /// the count of words that the list wants, and `next` with 0 only.
     pub fn sighvona_lift(
         text: *const u8,
         text_len: usize,
@@ -26,4 +27,7 @@ unsafe extern "C" {
         work: *mut u32,
         work_len: usize,
     ) -> u32;
+
+    /// The library's version, major * 65,536 + minor * 256 + patch.
+    pub fn sighvona_version() -> u32;
 }

@@ -1,6 +1,8 @@
-//! The listing of document 01 and each refusal that a short text can bring.
+//! The listing of document 01 with what stands in every slice, each refusal, the steps through a
+//! list, and the version.
 
-use sighvona::{Lifted, Refusal, SCRATCH_WORDS, Scratch, TEXT_BYTES, lift, lift_in, read_in};
+use sighvona::{instructions, lift, lift_in, read, read_in, sys};
+use sighvona::{Immediate, Lifted, Refusal, Scratch, MAX_WORDS, SCRATCH_WORDS, TEXT_BYTES};
 
 const LISTING: &[u8] = b"(func 0 2 3 0)\n(const 5 43)\n(region (in) (nodes 0) (out))\n(block 0)\n\
     (op 0 4 (inst 128) (c 0) (c 0))\n";
@@ -15,28 +17,55 @@ const LIST: [u32; 36] = [
 
 const NOISE: u32 = 0xdead_beef;
 
+/// Whether all words are one.
+fn all(slice: &[u32], word: u32) -> bool {
+    slice.iter().all(|&found| found == word)
+}
+
 #[test]
 fn listing() {
     let mut scratch = Scratch::new();
-    for _ in 0..2 {
-        let mut out = [NOISE; 40];
+    for length in [LIST.len(), 40, MAX_WORDS] {
+        let mut out = vec![NOISE; length];
         assert_eq!(
             lift(LISTING, 10, &mut scratch, &mut out),
             Ok(Lifted { words: LIST.len(), next: 13 })
         );
         assert_eq!(out[..LIST.len()], LIST);
-        assert_eq!(out[LIST.len()..], [NOISE; 4]);
+        assert!(all(&out[LIST.len()..], NOISE));
     }
 }
 
 #[test]
 fn output() {
-    let mut out = [NOISE; LIST.len()];
-    let short = &mut out[..LIST.len() - 1];
-    assert_eq!(lift(LISTING, 10, &mut Scratch::new(), short), Err(Refusal::Output));
-    assert_eq!(out, [NOISE; LIST.len()]);
-    assert!(lift(LISTING, 10, &mut Scratch::new(), &mut out).is_ok());
-    assert_eq!(out, LIST);
+    let mut scratch = Scratch::new();
+    for length in 0..LIST.len() {
+        let mut out = vec![NOISE; length];
+        let refusal = lift(LISTING, 10, &mut scratch, &mut out).unwrap_err();
+        assert_eq!(refusal, Refusal::Output { wanted: LIST.len() });
+        assert!(all(&out, NOISE));
+    }
+    // Behind the wrapper: the next id stays.
+    let (mut func, mut work) = ([NOISE; SCRATCH_WORDS], [NOISE; SCRATCH_WORDS]);
+    let (mut words, mut next) = (1, NOISE);
+    // SAFETY: the slices and places are this function's, and the output slice has no words.
+    let number = unsafe {
+        sys::sighvona_lift(
+            LISTING.as_ptr(),
+            LISTING.len(),
+            10,
+            func.as_mut_ptr(),
+            func.len(),
+            work.as_mut_ptr(),
+            work.len(),
+            [].as_mut_ptr(),
+            0,
+            &mut words,
+            &mut next,
+        )
+    };
+    assert_eq!((number, words, next), (11, LIST.len(), NOISE));
+    assert!(all(&func, 0) && all(&work, 0));
 }
 
 #[test]
@@ -46,54 +75,126 @@ fn scratch() {
     let mut out = [NOISE; 40];
     assert_eq!(lift_in(LISTING, 10, &mut long, &mut short, &mut out), Err(Refusal::Scratch));
     assert_eq!(lift_in(LISTING, 10, &mut short, &mut long, &mut out), Err(Refusal::Scratch));
+    assert_eq!(lift_in(b"", 0, &mut [], &mut [], &mut []), Err(Refusal::Scratch));
     assert_eq!(read_in(LISTING, &mut short, &mut long), Err(Refusal::Scratch));
-    assert!(long.iter().chain(&short).chain(&out).all(|&word| word == NOISE));
+    assert_eq!(read_in(LISTING, &mut long, &mut short), Err(Refusal::Scratch));
+    assert!(all(&long, NOISE) && all(&short, NOISE) && all(&out, NOISE));
     let mut other = [NOISE; SCRATCH_WORDS];
     assert_eq!(lift_in(b"x", 10, &mut long, &mut other, &mut out), Err(Refusal::Forms));
-    assert!(long.iter().chain(&other).all(|&word| word == 0));
-    assert!(out.iter().all(|&word| word == NOISE));
+    assert!(all(&long, 0) && all(&other, 0) && all(&out, NOISE));
+    let (mut long, mut other) = ([NOISE; SCRATCH_WORDS + 1], [NOISE; SCRATCH_WORDS]);
+    assert!(lift_in(LISTING, 10, &mut other, &mut long, &mut out).is_ok());
+    assert!(all(&long, 0) && all(&other, 0));
 }
 
 #[test]
 fn reading() {
-    let (mut func, mut work) = ([NOISE; SCRATCH_WORDS], [NOISE; SCRATCH_WORDS]);
-    assert_eq!(read_in(LISTING, &mut func, &mut work), Ok(()));
-    assert!(work.iter().all(|&word| word == 0));
-    assert_eq!(read_in(b"", &mut func, &mut work), Err(Refusal::Forms));
-    assert!(func.iter().all(|&word| word == 0));
+    for (text, answer) in [(LISTING, Ok(())), (b"", Err(Refusal::Forms))] {
+        let (mut func, mut work) = ([NOISE; SCRATCH_WORDS], [NOISE; SCRATCH_WORDS + 1]);
+        assert_eq!(read_in(text, &mut func, &mut work), answer);
+        assert!(all(&func, 0) && all(&work, 0));
+        assert_eq!(read(text, &mut Scratch::new()), answer);
+    }
 }
 
-/// Of a text: a function without parameters, and what follows its first line.
-fn refusal(rest: &str) -> Refusal {
+/// Of a text: a function without parameters, and what follows its first line. No slice of output is
+/// lent, as 11 comes last; and reading alone refuses by 1 to 7.
+fn refusal(first: u32, rest: &str) -> (u32, Refusal) {
     let text = format!("(func 0 2 3 0)\n{rest}");
-    lift(text.as_bytes(), 10, &mut Scratch::new(), &mut [0; 100]).expect_err(rest)
+    let mut scratch = Scratch::new();
+    let refusal = lift(text.as_bytes(), first, &mut scratch, &mut []).expect_err(rest);
+    let judged = read(text.as_bytes(), &mut scratch);
+    assert_eq!(judged, if refusal.number() < 8 { Err(refusal) } else { Ok(()) });
+    (refusal.number(), refusal)
 }
 
 #[test]
 fn refusals() {
     let empty = "(region (in) (nodes) (out))\n";
-    let block = "(region (in) (nodes 0) (out))\n(block 0)\n";
-    assert_eq!(refusal(&" ".repeat(TEXT_BYTES)), Refusal::Long);
-    assert_eq!(refusal("(region (in) (nodes) (out))"), Refusal::Forms);
-    assert_eq!(refusal(&empty.repeat(129)), Refusal::Limits);
-    assert_eq!(refusal("(region (in) (nodes) (out (c 0)))\n"), Refusal::References);
-    assert_eq!(refusal(&empty.repeat(2)), Refusal::Tree);
-    assert_eq!(refusal("(region (in (0 4)) (nodes) (out))\n"), Refusal::Counts);
     let twice = "(ctrl 0 0 return (ins) (to) (vals))\n".repeat(2);
-    assert_eq!(refusal(&format!("{empty}{twice}")), Refusal::Control);
-    assert_eq!(refusal(&format!("{block}(op 0 10 (inst 128))\n")), Refusal::Ids);
     // Region 1 is not reached, so nothing sets its input.
     let input = "(region (in (0 4)) (nodes) (out))\n(ctrl 0 0 return (ins (r 1 0)) (to) (vals))\n";
-    assert_eq!(refusal(&format!("{empty}{input}")), Refusal::Values);
+    assert_eq!(refusal(10, &" ".repeat(TEXT_BYTES)), (1, Refusal::Long));
+    assert_eq!(refusal(10, "(region (in) (nodes) (out))"), (2, Refusal::Forms));
+    assert_eq!(refusal(10, &empty.repeat(129)), (3, Refusal::Limits));
+    assert_eq!(refusal(10, "(region (in) (nodes) (out (c 0)))\n"), (4, Refusal::References));
+    assert_eq!(refusal(10, &empty.repeat(2)), (5, Refusal::Tree));
+    assert_eq!(refusal(10, "(region (in (0 4)) (nodes) (out))\n"), (6, Refusal::Counts));
+    assert_eq!(refusal(10, &format!("{empty}{twice}")), (7, Refusal::Control));
+    assert_eq!(refusal(0, empty), (9, Refusal::Ids));
+    assert_eq!(refusal(3, empty), (9, Refusal::Ids));
+    assert_eq!(refusal(4_194_303, empty), (9, Refusal::Ids));
+    assert_eq!(refusal(10, &format!("{empty}{input}")), (10, Refusal::Values));
+    assert_eq!(refusal(4_194_302, empty), (11, Refusal::Output { wanted: 28 }));
 }
 
 #[test]
-fn numbers() {
-    for (number, refusal) in (1..).zip(Refusal::ALL) {
+fn errors() {
+    let refusals = [
+        Refusal::Long,
+        Refusal::Forms,
+        Refusal::Limits,
+        Refusal::References,
+        Refusal::Tree,
+        Refusal::Counts,
+        Refusal::Control,
+        Refusal::Scratch,
+        Refusal::Ids,
+        Refusal::Values,
+        Refusal::Output { wanted: 36 },
+    ];
+    for (number, refusal) in (1..).zip(refusals) {
         assert_eq!(refusal.number(), number);
-        assert_eq!(Refusal::from_number(number), Some(refusal));
-        assert!(refusal.to_string().starts_with(&format!("refusal {number}: ")));
+        let error: Box<dyn std::error::Error + Send + Sync> = refusal.into();
+        assert!(error.to_string().starts_with(&format!("refusal {number}: ")));
     }
-    assert_eq!(Refusal::from_number(0), None);
-    assert_eq!(Refusal::from_number(12), None);
+    assert!(refusals[10].to_string().ends_with(" 36 words"));
+}
+
+#[test]
+fn steps() {
+    let found: Vec<_> = instructions(&LIST)
+        .map(|i| ([i.opcode, i.attributes, i.result_type, i.result], i.immediates().len(), i.ids))
+        .collect();
+    let expected: [([u32; 4], usize, &[u32]); 5] = [
+        ([54, 0, 2, 10], 1, &[3]),
+        ([248, 0, 0, 12], 0, &[]),
+        ([128, 0, 4, 11], 0, &[5, 5]),
+        ([253, 0, 0, 0], 0, &[]),
+        ([56, 0, 0, 0], 0, &[]),
+    ];
+    assert_eq!(found, expected);
+    let function = instructions(&LIST).next().unwrap();
+    let control = Immediate { kind: 0, operand_kind: 1, word: 0 };
+    assert_eq!(function.immediates().collect::<Vec<_>>(), [control]);
+    assert_eq!(instructions(&LIST).size_hint(), (0, Some(6)));
+}
+
+#[test]
+fn steps_through_any_words() {
+    // Cut short, a list gives the instructions before the cut and leaves the rest.
+    let ends = [0, 10, 16, 24, 30, 36];
+    for length in 0..=LIST.len() {
+        let mut steps = instructions(&LIST[..length]);
+        let whole = ends.iter().filter(|&&end| 0 < end && end <= length).count();
+        assert_eq!(steps.by_ref().count(), whole);
+        assert_eq!(steps.rest(), &LIST[ends[whole]..length]);
+        assert!(steps.next().is_none());
+    }
+    // Counts that no slice has.
+    for count in [1, 2, 0x5555_5555, 0x5555_5556, 0x8000_0000, u32::MAX] {
+        for words in [&[9, 0, 0, 0, count, 0, 0][..], &[9, 0, 0, 0, 0, count]] {
+            let mut steps = instructions(words);
+            assert!(steps.next().is_none());
+            assert_eq!(steps.rest(), words);
+        }
+    }
+}
+
+#[test]
+fn version() {
+    assert_eq!(sighvona::library_version(), sighvona::VERSION);
+    assert_eq!(sighvona::VERSION, 512);
+    let [major, minor, patch] = [16, 8, 0].map(|bits| sighvona::VERSION >> bits & 255);
+    assert_eq!(format!("{major}.{minor}.{patch}"), env!("CARGO_PKG_VERSION"));
 }
