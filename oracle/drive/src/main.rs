@@ -2,9 +2,10 @@
 //!
 //! Reads cases, each ended by a line `%%`, and gives every one to the library, more than once and
 //! with slices of several lengths, all filled with noise. Looked at are the refusal or the list,
-//! the word count, the next id, and every word of the three slices after the call. The list must
-//! be the Rust's, refusal 10 stand where the Rust panics, and the other refusals, which the Rust
-//! does not have, where the reference `refer` has them.
+//! the word count, which after 11 is what the list wants, the next id, and every word of the three
+//! slices after the call; of a call that only reads, both scratch slices. The list must be the
+//! Rust's, refusal 10 stand where the Rust panics, and the other refusals, which the Rust does not
+//! have, where the reference `refer` has them.
 //!
 //! Prints the counts and the shortest differences. A first line is the program `lift`'s and not
 //! the library's, so cases with a bad one are only counted. Exit status 0 if nothing differs.
@@ -13,13 +14,17 @@ mod call;
 
 use call::Library;
 use refer::read::Cursor;
-use sighvona::SCRATCH_WORDS;
+use sighvona::{MAX_WORDS, SCRATCH_WORDS};
 use std::collections::BTreeMap;
 use std::io::{self, BufRead};
 
 /// What a case's answer must be.
 pub enum Expected {
-    List { words: Vec<u32>, next: u32 },
+    /// This list, or 11 with its word count where less than that is lent.
+    List {
+        words: Vec<u32>,
+        next: u32,
+    },
     Refused(u32),
 }
 
@@ -79,16 +84,15 @@ fn judge(library: &mut Library, case: &[u8]) -> Result<String, String> {
     match &expected {
         Expected::List { words, .. } => {
             let length = words.len();
-            library.lift(text, first, [more, full, length], &expected)?;
-            let short = [full, more, length - 1];
-            library.lift(text, first, short, &Expected::Refused(11))?;
-            library.read(text, full, full, 0)?;
-            if length > full {
-                library.lift(text, first, [full; 3], &Expected::Refused(11))?;
-                return Ok("longer lists equal, refused with 11 for 16,384 words".to_owned());
+            if length > MAX_WORDS {
+                return Err(format!("a list of {length} words"));
             }
-            library.lift(text, first, [full; 3], &expected)?;
-            Ok("lists equal".to_owned())
+            for lengths in [[full; 3], [more, full, length], [full, more, length - 1]] {
+                library.lift(text, first, lengths, &expected)?;
+            }
+            library.read(text, full, full, 0)?;
+            let longer = "longer lists equal, refused with 11 for 16,384 words";
+            Ok(if length > full { longer } else { "lists equal" }.to_owned())
         }
         Expected::Refused(number) => {
             library.lift(text, first, [full; 3], &expected)?;
