@@ -31,7 +31,7 @@ enum {
     /* the highest id that is given */
     SIGHVONA_HIGHEST_ID = 4194303,
     /* No list has more words, which is proved (crates/sizes, `list-bound`): with an output slice of so many, refusal 11 never comes. */
-    SIGHVONA_MAX_WORDS = 24000
+    SIGHVONA_MAX_WORDS = 23184
 };
 
 /* What a call answers: 0, or the number of the refusal in document 01. They are looked for in the order 8, 1 to 7, 9, 10, 11, each over the

@@ -59,7 +59,7 @@ pub const TEXT_BYTES: usize = 32_768;
 
 /// No list has more words, which is proved (crates/sizes, `list-bound`): with an output slice of so
 /// many, [`Refusal::Output`] never comes.
-pub const MAX_WORDS: usize = 24_000;
+pub const MAX_WORDS: usize = 23_184;
 
 /// What an accepted call gives beside the list.
 #[derive(Clone, Copy, Debug, PartialEq, Eq)]
