@@ -90,13 +90,13 @@ in-tabulate {A} f k (suc n) i h g = by-case (ℕ-discrete i k) (λ (m : ¬ (i �
     by-case (yes e) ih = subst (λ (x : ℕ). In (f i) (f x ∷ tabulate f (suc k) n)) e here
     by-case (no m) ih = there (ih m)
 
-pub tabulate-in : {A : Type 0} (f : ℕ → A) (k n : ℕ) {x : A} → In x (tabulate f k n) → (i : ℕ) × (k ≤ i) × (x ≡ f i)
+pub tabulate-in : {A : Type 0} (f : ℕ → A) (k n : ℕ) {x : A} → In x (tabulate f k n) → (i : ℕ) × (k ≤ i) × (x ≡ f i) × (i < k + n)
 tabulate-in f k zero h = absurd (in-nil h)
 tabulate-in {A} f k (suc n) {x} h = by-case (in-cases h) (tabulate-in f (suc k) n)
   where
-    by-case : (x ≡ f k) ⊎ In x (tabulate f (suc k) n) → (In x (tabulate f (suc k) n) → (i : ℕ) × (suc k ≤ i) × (x ≡ f i)) → (i : ℕ) × (k ≤ i) × (x ≡ f i)
-    by-case (inl e) ih = (k, omega arith, e)
-    by-case (inr j) ih = let r = ih j in (r .0, omega (arith, r .1), r .2)
+    by-case : (x ≡ f k) ⊎ In x (tabulate f (suc k) n) → (In x (tabulate f (suc k) n) → (i : ℕ) × (suc k ≤ i) × (x ≡ f i) × (i < suc k + n)) → (i : ℕ) × (k ≤ i) × (x ≡ f i) × (i < k + suc n)
+    by-case (inl e) ih = (k, omega arith, e, omega arith)
+    by-case (inr j) ih = let r = ih j in (r .0, omega (arith, r .1), r .2, omega (arith, r .3))
 
 tabulate-shift : {A : Type 0} (f : ℕ → A) (k n : ℕ) → tabulate f (suc k) n ≡ tabulate (λ i. f (suc i)) k n
 tabulate-shift f k zero = refl
@@ -155,7 +155,16 @@ nodup-tabulate f inj k zero = tt
 nodup-tabulate f inj k (suc n) =
     (λ h. let r = tabulate-in f (suc k) n h in omega (arith, r .1, inj k (r .0) (r .2)), nodup-tabulate f inj (suc k) n)
 
--- how often a number stands in a list
+-- how often an element stands in a list
+pub times-in : {A : Type 0} (eq : (x y : A) → Dec (x ≡ y)) (x : A) (l : List A) → 0 < times eq x l → In x l
+times-in eq x [] h = absurd (omega arith)
+times-in {A} eq x (y ∷ l) h = by-case (eq x y) h (times-in eq x l)
+  where
+    by-case : (d : Dec (x ≡ y)) → 0 < choose d 1 0 + times eq x l → (0 < times eq x l → In x l) → In x (y ∷ l)
+    by-case (yes e) g ih = subst (λ (z : A). In x (z ∷ l)) e here
+    by-case (no n) g ih = there (ih (omega arith))
+
+-- how often a number does
 pub times-append : (i : ℕ) (k l : List ℕ) → times ℕ-discrete i (k ++ l) ≡ times ℕ-discrete i k + times ℕ-discrete i l
 times-append i [] l = omega arith
 times-append i (j ∷ k) l = omega (arith, times-append i k l)

@@ -2,17 +2,17 @@
 use mathlib.Core.Path.{_≡_, refl, sym, ap, _∙_, subst}
 use mathlib.Core.Logic.{inl, inr}
 use mathlib.Core.List.{List, [], _∷_, _++_, map}
-use Prim.Native.Nat.{ℕ, zero, suc, _+_, _<_}
+use Prim.Native.Nat.{ℕ, zero, suc, _<_}
 use native.Mathlib.Omega.{arith}
 use lib.ListN.{getD}
-use Rattle.lifting.specs.Lists.{choose, gather}
+use Rattle.lifting.specs.Lists.{gather}
 use Rattle.lifting.specs.Ast.{Func, const}
 use Rattle.lifting.specs.Points.{BlockLifting, CfgPoint, Table, edgeOf, eqPoint, points}
 use Rattle.lifting.specs.Absorb.{countIn}
 use Rattle.lifting.specs.Ids.{idOf, labelOf}
 use Rattle.lifting.specs.Instructions.{ifUsed, pairs}
 use Rattle.lifting.specs.BlockRun.{pairOf}
-use Rattle.runs.specs.Members.{In, NoDup, gather-in, here, in-cases, in-gather, in-map, in-nil, map-in, nodup-append, there}
+use Rattle.runs.specs.Members.{In, NoDup, gather-in, here, in-cases, in-gather, in-map, in-nil, map-in, nodup-append, there, times-in}
 use Rattle.runs.specs.AbsorbCount.{in-count}
 use Rattle.runs.specs.Ids.{label-inj}
 use Rattle.runs.specs.EmitRun.{Sound, pair-of, point-named}
@@ -48,12 +48,7 @@ in-edge zero p h = absurd (omega arith)
 in-edge (suc n) p h = here
 
 pub counted-in : (q : CfgPoint) (l : List CfgPoint) → 0 < countIn q l → In q l
-counted-in q [] h = absurd (omega arith)
-counted-in q (p ∷ l) h = by-case (eqPoint q p) h (counted-in q l)
-  where
-    by-case : (d : Dec (q ≡ p)) → 0 < choose d 1 0 + countIn q l → (0 < countIn q l → In q l) → In q (p ∷ l)
-    by-case (yes e) g ih = subst (λ (s : CfgPoint). In q (s ∷ l)) e here
-    by-case (no n) g ih = there (ih (omega arith))
+counted-in = times-in eqPoint
 
 source-of : (L : Table) (q s : CfgPoint) → In s (sources L q) → (x : CfgPoint × BlockLifting) × In x L × (s ≡ x .0) × In q (x .1 .term .targets)
 source-of L q s h =
