@@ -115,7 +115,7 @@ module _ (F : Func) (first : ℕ) (T K : Table) where
     pairs-for l q g h (k ∷ ks) ds j =
         ap (λ (x : ℕ). x ∷ pairsFor l (phiInsts F first T K q ks ds (suc j))) (h j) ∙ ap (λ (r : List ℕ). idOf F first T K (g j) ∷ r) (pairs-for l q g h ks ds (suc j))
 
-    results-phis : (q : CfgPoint) (ks : List Value) (ds : List Decl) (j : ℕ) → results (phiInsts F first T K q ks ds j) ≡ map (idOf F first T K) ks
+    pub results-phis : (q : CfgPoint) (ks : List Value) (ds : List Decl) (j : ℕ) → results (phiInsts F first T K q ks ds j) ≡ map (idOf F first T K) ks
     unfolding phiInsts
     results-phis q [] ds j = refl
     results-phis q (k ∷ ks) ds j = ap (λ (r : List ℕ). idOf F first T K k ∷ r) (results-phis q ks ds (suc j))

@@ -30,5 +30,6 @@ pub mod AcceptedRuns
 pub mod IdsOnce
 pub mod Numbering
 pub mod Pairs
+pub mod ListIds
 pub mod Demand3
 pub mod WitnessRuns
