@@ -31,5 +31,6 @@ pub mod IdsOnce
 pub mod Numbering
 pub mod Pairs
 pub mod ListIds
+pub mod ListPhis
 pub mod Demand3
 pub mod WitnessRuns
