@@ -12,6 +12,7 @@ use borrow.Author.Tests.{lt-ltb, le-ltb}
 use Rattle.lifting.specs.Limits.{scratchWords}
 use Rattle.lifting.specs.Ast.{Func, Region}
 use Rattle.lifting.specs.Walk.{walkOf}
+use Rattle.runs.specs.EveryText.{walk-none}
 use Rattle.func.specs.Decode.{funcOf}
 use Rattle.func.specs.Tables.{Tables}
 use Rattle.control.specs.Tables.{linesAt, childrenAt}
@@ -87,11 +88,6 @@ module _ {w u : List ℕ} {m : ℕ} (k : Visited w u m) (b : BlockWords (funcOf 
   pub blank-before : (x : ℕ) → x < linesAt → getD u x 0 ≡ 0
   unfolding blockWord
   blank-before x h = b .word x ∙ lower x linesAt _ _ h
-
--- a function without a body is not walked
-pub walk-none : (F : Func) → F .regions ≡ [] → walkOf F ≡ []
-unfolding walkOf
-walk-none F e = rw e
 
 pub laid-imported : {w u : List ℕ} → Tables w → scratchWords ≤ length u → funcOf w .regions ≡ [] → Laid w u 0
 laid-imported {w} {u} t z e = record {

@@ -24,8 +24,8 @@ use Rattle.runs.specs.Members.{all-in, here, there}
 use Rattle.runs.specs.Refers.{Refers, refers}
 use Rattle.runs.specs.Fits as fits
 use Rattle.runs.specs.Shaped.{shaped-checked}
+use Rattle.runs.specs.EveryText.{walk-none}
 use Rattle.flat.specs.Laws as flat
-use Rattle.blocks.specs.Laid.{walk-none}
 use Rattle.checks.specs.Same.{Passes}
 use Rattle.put.specs.declared.Cursor.{Cursor}
 use Rattle.put.specs.Put.{Put, anyMissing, lastPlace, sat, wordsOf}

@@ -23,9 +23,9 @@ use Rattle.flat.specs.ListFlat.{writing}
 use Rattle.flat.specs.Laws as flat
 use Rattle.func.specs.Lists.{gather-append}
 use Rattle.runs.specs.Shaped.{Shaped}
+use Rattle.runs.specs.EveryText.{walk-none}
 use Rattle.term.specs.At.{blockAt, pointAt}
 use Rattle.blocks.specs.Glue.{absorbs, stands}
-use Rattle.blocks.specs.Laid.{walk-none}
 use Rattle.lifting.specs.Ids.{idOf}
 use Rattle.func.specs.Tables.{paramOf}
 use Rattle.ids.specs.Later.{function-id, param-id}

@@ -70,7 +70,7 @@ module _ (F : Func) (first : ℕ) (ok : Accepted F first) (body : hasBody (F .re
   shape = absorb-shape T (terms F shaped)
 
   -- phi keys are no constants
-  NoCon : Value → Type 0
+  unfoldable pub NoCon : Value → Type 0
   NoCon (const n) = ⊥
   NoCon (regionInput r i) = Unit {0}
   NoCon (nodeOutput n i) = Unit {0}
@@ -97,7 +97,7 @@ module _ (F : Func) (first : ℕ) (ok : Accepted F first) (body : hasBody (F .re
   in-keys n (loop b c is) = from-rin b 0 (length (regionOf F b .ins))
   in-keys n (Node.exit i vs) = tt
 
-  keys-plain : All (λ (x : CfgPoint × BlockLifting). All NoCon (x .1 .keys)) T
+  pub keys-plain : All (λ (x : CfgPoint × BlockLifting). All NoCon (x .1 .keys)) T
   keys-plain = subst (All (λ (x : CfgPoint × BlockLifting). All NoCon (x .1 .keys))) (walk-is F shaped) (every-point F (λ (x : CfgPoint × BlockLifting). All NoCon (x .1 .keys)) (λ r p t. entry-keys r p) (λ r p. tt) (λ n. in-keys n (nodeOf F n))
       (λ n q. from-out n 0 (length (outsOf (nodeOf F n)))) (suc (length (F .regions))) (roots F) (roots-ok F (ok .targets) .no-child))
 

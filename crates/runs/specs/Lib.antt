@@ -32,5 +32,6 @@ pub mod Numbering
 pub mod Pairs
 pub mod ListIds
 pub mod ListPhis
+pub mod EveryText
 pub mod Demand3
 pub mod WitnessRuns
