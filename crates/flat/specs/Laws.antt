@@ -29,6 +29,7 @@ use Rattle.flat.specs.Uses.{labels-visited}
 use Rattle.flat.specs.Totals.{allLabels, total, total-uses, use-count, usesOf}
 use Rattle.flat.specs.Neighbours.{Near, kept-fused}
 use Rattle.flat.specs.Nearby.{walk-near}
+use Rattle.flat.specs.NeverDecides.{by-count-alone, keptByCount}
 use Rattle.flat.specs.Phis.{SamePhis, edge-kept, phi-keys-kept, with-phis}
 use Rattle.flat.specs.SetIds.{id-at, names-once, set-id}
 use Rattle.flat.specs.Kept.{edge-fits, label-kept}
@@ -116,6 +117,10 @@ module _ (F : Func) where
     -- Phis. No point that has some is dropped or absorbed, and a block's phis stay as they are.
     pub phis-stay : (x : CfgPoint × BlockLifting) → In x T → ¬ (x .1 .keys ≡ []) → (b : BlockLifting) × In (x .0, b) K × SamePhis b (x .1)
     phis-stay = with-phis F ok
+
+    -- So the test that an absorbed target has no phis never decides.
+    pub count-decides : keptByCount T ≡ K
+    count-decides = by-count-alone F ok
 
     pub phi-keys-are : phiKeys K ≡ phiKeys T
     phi-keys-are = phi-keys-kept F ok

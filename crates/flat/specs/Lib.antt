@@ -8,6 +8,7 @@ pub mod Steps
 pub mod Uses
 pub mod Totals
 pub mod Nearby
+pub mod NeverDecides
 pub mod Follow
 pub mod Phis
 pub mod SetIds

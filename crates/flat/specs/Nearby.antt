@@ -51,7 +51,7 @@ module _ (F : Func) (ok : Shaped F) where
   back-to false n c vs = here
 
   -- a loop's entry: its way back leads there too
-  loop-busy : {r n b : ℕ} {p : Place} {ns : List ℕ} {c : Value} {is : List Value} → Visited F r p → Suffix (regionOf F r .nodes) (n ∷ ns) → nodeOf F n ≡ loop b c is → 2 ≤ uses (nodeEntry n)
+  pub loop-busy : {r n b : ℕ} {p : Place} {ns : List ℕ} {c : Value} {is : List Value} → Visited F r p → Suffix (regionOf F r .nodes) (n ∷ ns) → nodeOf F n ≡ loop b c is → 2 ≤ uses (nodeEntry n)
   loop-busy {n = n} {b} {ns = ns} {c} {is} w sf e =
       let q = before-node F ok n ns w sf refl in
       used-twice T (q .0) (regionExit b) (nodeEntry n) (q .2 b) (q .1) (leads-from (loop b c is) (in-loop w sf e) e (back-to (always F c) n c (regionOf F b .outs)))

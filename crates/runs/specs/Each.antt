@@ -80,7 +80,7 @@ each-at P bare T h p = by-case (find eqPoint p T) refl
     by-case (some b) e = all-in _ T h (p, b) (find-in eqPoint p T e)
 
 module _ (P : BlockLifting → Type 0) (bare : P (plain nothingHere)) (empties : (b : BlockLifting) → P b → P (emptied b)) (joins : (b c : BlockLifting) → P b → P c → P (joined b c)) where
-  each-fuse : (b t : CfgPoint) (c : BlockLifting) → P c → (T : Table) → Each P T → Each P (fuse b t c T)
+  pub each-fuse : (b t : CfgPoint) (c : BlockLifting) → P c → (T : Table) → Each P T → Each P (fuse b t c T)
   each-fuse b t c hc [] h = tt
   each-fuse b t c hc (x ∷ T) h = (by-case (eqPoint (x .0) t) (eqPoint (x .0) b), each-fuse b t c hc T (h .1))
     where
