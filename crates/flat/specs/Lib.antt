@@ -17,3 +17,4 @@ pub mod Kept
 pub mod Callees
 pub mod Missing
 pub mod Laws
+pub mod Demand2

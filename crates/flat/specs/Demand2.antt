@@ -1,0 +1,79 @@
+-- Demand 2 about the list that is written, for every accepted text, imported functions too: new ids run from the first id to one below the next
+-- free id, none twice, and a phi has one pair for each kept block with an edge to it, holding that edge's value. No hypothesis beyond the answer.
+-- Assumes nothing.
+use mathlib.Core.Path.{_≡_, refl, sym, ap, _∙_, subst}
+use mathlib.Core.Bool.{true}
+use mathlib.Core.List.{List}
+use mathlib.Core.Option.{some}
+use Prim.Native.Nat.{ℕ, _<_}
+use lib.ListN.{length}
+use Rattle.lifting.specs.Ast.{Func}
+use Rattle.lifting.specs.Grammar.{read}
+use Rattle.lifting.specs.Parts.{hasBody}
+use Rattle.lifting.specs.Points.{Table}
+use Rattle.lifting.specs.Walk.{walkOf}
+use Rattle.lifting.specs.Absorb.{absorb, kept}
+use Rattle.lifting.specs.Ids.{phiKeys}
+use Rattle.lifting.specs.Instructions.{Instruction, listOf}
+use Rattle.lifting.specs.Words.{listFrom}
+use Rattle.lifting.specs.BlockRun.{parts, phisOf}
+use Rattle.lifting.specs.Answer.{answer, listed}
+use Rattle.runs.specs.Members.{In}
+use Rattle.runs.specs.Listing.{blocksFor, emit-blocks}
+use Rattle.runs.specs.EmitRun.{all-free}
+use Rattle.runs.specs.Passes.{answer-passes}
+use Rattle.runs.specs.Shaped.{Shaped, shaped-accepted}
+use Rattle.runs.specs.ListIds.{RunOn, givenIds, ids-run-on}
+use Rattle.runs.specs.ListPhis.{PhiPairs, phiIds, phi-pairs-of}
+use Rattle.runs.specs.EveryText.{of-walk}
+use Rattle.runs.specs.Demand3.{accepted, fine, list-is, passed}
+use Rattle.flat.specs.Phis.{phi-keys-kept}
+use Rattle.flat.specs.NeverDecides.{by-count-alone, keptByCount}
+
+module _ (text : List ℕ) (first func work out : ℕ) (ws : List ℕ) (next : ℕ) (ok : answer text first func work out ≡ listed ws next)
+    (F : Func) (is : read text ≡ some F) where
+  shaped : hasBody (F .regions) ≡ true → Shaped F
+  shaped body = shaped-accepted F first (accepted text first func work out ws next ok F is body) body
+
+  abbrev T : Table
+  T = walkOf F
+
+  abbrev K : Table
+  K = kept (walkOf F)
+
+  -- the blocks of the list
+  abbrev bs : List (ℕ × List Instruction)
+  bs = parts (listFrom ws) .blocks
+
+  blocks-are : bs ≡ blocksFor F first T K K
+  unfolding listOf
+  blocks-are =
+      let s = fine text first func work out ws next ok F is .sound in
+      ap (λ (l : List Instruction). parts l .blocks) (list-is text first func work out ws next ok F is) ∙ emit-blocks F first T K (all-free F first T K s K (s .all-ok))
+
+  -- The phis of each block (l, body) of the list: one pair for each block whose way out names l, and no other, with that edge's value.
+  pub list-phis : (l : ℕ) (body : List Instruction) → In (l, body) bs → (j : ℕ) → j < length (phisOf body) → PhiPairs F first T K bs l j (phiIds body j)
+  list-phis =
+      let f = fine text first func work out ws next ok F is in
+      subst (λ (xs : List (ℕ × List Instruction)). (l : ℕ) (body : List Instruction) → In (l, body) xs → (j : ℕ) → j < length (phisOf body) → PhiPairs F first T K xs l j (phiIds body j))
+      (sym blocks-are) (phi-pairs-of F first T K (f .sound) (f .points-once))
+
+  -- the test that an absorbed target has no phis never decides
+  pub absorbed-by-count : keptByCount (walkOf F) ≡ kept (walkOf F)
+  unfolding kept absorb keptByCount
+  absorbed-by-count = of-walk F (λ (U : Table). keptByCount U ≡ kept U) (λ body. by-count-alone F (shaped body)) refl
+
+  ids-of : RunOn first next (givenIds (listFrom ws))
+  unfolding listOf kept absorb
+  ids-of =
+      let f = fine text first func work out ws next ok F is in
+      let p = passed text first func work out ws next ok F is in
+      let phis = of-walk F (λ (U : Table). phiKeys (kept U) ≡ phiKeys U) (λ body. phi-keys-kept F (shaped body)) refl in
+      subst (RunOn first next) (ap givenIds (sym (list-is text first func work out ws next ok F is)))
+      (subst (λ (n : ℕ). RunOn first n (givenIds (listOf F first))) (sym (p .next-is)) (ids-run-on F first T K (f .sound) phis (f .names-once) (f .phis-fresh)))
+
+-- The ids that the list's instructions give: each id from the first to one below the next free id, and no other, none twice.
+pub list-ids : (text : List ℕ) (first func work out : ℕ) (ws : List ℕ) (next : ℕ) → answer text first func work out ≡ listed ws next → RunOn first next (givenIds (listFrom ws))
+list-ids text first func work out ws next ok =
+    let w = answer-passes text first func work out ws next ok in
+    ids-of text first func work out ws next ok (w .0) (w .1 .text-is)
