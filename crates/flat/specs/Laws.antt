@@ -118,7 +118,7 @@ module _ (F : Func) where
     pub phis-stay : (x : CfgPoint × BlockLifting) → In x T → ¬ (x .1 .keys ≡ []) → (b : BlockLifting) × In (x .0, b) K × SamePhis b (x .1)
     phis-stay = with-phis F ok
 
-    -- So the test that an absorbed target has no phis never decides.
+    -- The test that an absorbed target has no phis never decides: absorption by use counts alone keeps the same.
     pub count-decides : keptByCount T ≡ K
     count-decides = by-count-alone F ok
 
