@@ -53,19 +53,20 @@ count-bound q (p ∷ l) = by-point (eqPoint q p) (count-bound q l)
 pub use-bound : (T : Table) (q : CfgPoint) → useCount T q ≤ length (usesOf T)
 use-bound T q = omega (arith, use-count T q, count-bound q (usesOf T))
 
-abbrev pub total : (CfgPoint → ℕ) → List CfgPoint → ℕ
+-- the sum of what f gives at each element
+abbrev pub total : {A : Type 0} → (A → ℕ) → List A → ℕ
 total f [] = 0
 total f (p ∷ l) = f p + total f l
 
-total-same : (f g : CfgPoint → ℕ) → ((p : CfgPoint) → f p ≡ g p) → (l : List CfgPoint) → total f l ≡ total g l
+total-same : {A : Type 0} (f g : A → ℕ) → ((p : A) → f p ≡ g p) → (l : List A) → total f l ≡ total g l
 total-same f g h [] = refl
 total-same f g h (p ∷ l) = ap₂ _+_ (h p) (total-same f g h l)
 
-total-add : (f g : CfgPoint → ℕ) (l : List CfgPoint) → total (λ p. f p + g p) l ≡ total f l + total g l
+pub total-add : {A : Type 0} (f g : A → ℕ) (l : List A) → total (λ p. f p + g p) l ≡ total f l + total g l
 total-add f g [] = refl
 total-add f g (p ∷ l) = omega (arith, total-add f g l)
 
-total-none : (l : List CfgPoint) → total (λ p. 0) l ≡ 0
+pub total-none : {A : Type 0} (l : List A) → total (λ p. 0) l ≡ 0
 total-none [] = refl
 total-none (p ∷ l) = omega (arith, total-none l)
 

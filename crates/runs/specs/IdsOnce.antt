@@ -240,7 +240,7 @@ module _ (F : Func) (depth : ℕ) (tr : Tree F depth) (root0 : Root F 0) where
       ops-fine = every-point F OpsFine (λ r p t. (tt, λ i h. absurd (in-nil h))) (λ r p. (tt, λ i h. absurd (in-nil h))) (λ n. in-ops n (nodeOf F n) refl)
           (λ n q. (tt, λ i h. absurd (in-nil h))) depth rs rt
 
-      phis-nodup : NoDup (phiKeys T)
+      pub phis-nodup : NoDup (phiKeys T)
       phis-nodup = nodup-owned keyPart KeyAt key-once T nd keys-fine
 
       ops-nodup : NoDup (opsOf T)
