@@ -1,0 +1,125 @@
+-- What the parts of a text can add to its list, in words, and the number of words that no list exceeds. Definitions. Assumes nothing.
+use mathlib.Core.Path.{_≡_, refl}
+use mathlib.Core.List.{List, [], _∷_}
+use Prim.Native.Nat.{ℕ, zero, suc, _+_, _*_}
+use lib.ListN.{length}
+use Rattle.lifting.specs.Ast.{ControlInst, Func, Inst, Node, Op, Value, block, exit, loop, select}
+use Rattle.lifting.specs.Parts.{blockOps, childrenOf, ctrlInsts, ctrlOf, nodeInsts, nodeOf, opInsts, opOf, regionOf}
+use Rattle.lifting.specs.Limits.{maxDecls, maxImmediates, maxNodes, maxOps, maxParams, maxRegions, maxTargets, maxValues}
+use Rattle.lifting.specs.Points.{BlockLifting, CfgPoint, Merge, Table, Terminator, loopMerge, noMerge, nodeEntry, nodeExit, regionEntry, regionExit, selectionMerge}
+use Rattle.lifting.specs.Walk.{walkOf}
+use Rattle.lifting.specs.Absorb.{countIn}
+use Rattle.flat.specs.Totals.{total}
+use Rattle.sizes.specs.Sums.{weighed}
+
+-- opcode, attributes, result type, result, and the two counts
+abbrev pub head : ℕ
+head = 6
+
+-- an immediate
+abbrev pub imm : ℕ
+imm = 3
+
+-- In order: function and end; parameters; label and way out of each point; a merge for each node; phis; ops, with a callee's id and a literal;
+-- immediates; a value as an operand or an input is one word, in a phi two, its label too; targets of ctrl lines. Then the ids of other ways
+-- out: of a region one at its entry, three at its exit (a loop's condition and two targets), one for a case; of a node one at each point.
+abbrev pub maxWords : ℕ
+maxWords =
+    (head + imm + 1)
+    + head
+    + head * maxParams
+    + (head + head) * (2 * maxRegions + 2 * maxNodes)
+    + (head + imm + 2) * maxNodes
+    + head * maxDecls
+    + (head + imm + 1) * maxOps
+    + imm * maxImmediates
+    + 2 * maxValues
+    + maxTargets
+    + (1 + 3 + 1) * maxRegions
+    + (1 + 1) * maxNodes
+
+-- 16 + 384 + 6144 + 1408 + 3072 + 5120 + 1536 + 4096 + 512 + 640 + 256
+pub evaluated : maxWords ≡ 23184
+evaluated = refl
+
+-- the immediates of INSTs
+abbrev pub immTotal : List Inst → ℕ
+immTotal l = total (λ i. length (i .imms)) l
+
+-- an op
+abbrev pub opWeight : Op → ℕ
+opWeight o = (head + imm + 1) + (imm * immTotal (opInsts (o .kind)) + length (o .operands))
+
+-- a merge
+abbrev pub mergeWeight : Merge → ℕ
+mergeWeight noMerge = 0
+mergeWeight (selectionMerge a) = head + imm + 1
+mergeWeight (loopMerge a b) = head + imm + 2
+
+-- a merge and a way out, but for the way out's head
+abbrev pub endWeight : Terminator → ℕ
+endWeight t = mergeWeight (t .merge) + (imm * immTotal (ctrlInsts (t .kind)) + (length (t .ins) + length (t .targets)))
+
+-- n values for the phis of the block at q, if the way out t leads there
+abbrev pub ifTo : ℕ → ℕ → ℕ
+ifTo zero n = 0
+ifTo (suc k) n = n
+
+abbrev pub edgeWeight : CfgPoint → ℕ → Terminator → ℕ
+edgeWeight q n t = ifTo (countIn q (t .targets)) n
+
+-- what moves along all edges of a way out
+abbrev pub flow : Table → Terminator → ℕ
+flow T t = total (λ x. edgeWeight (x .0) (length (x .1 .keys)) t) T
+
+-- a ctrl line: its values move along edges or are inputs
+abbrev pub movedBy : ControlInst → ℕ
+movedBy c = total (λ e. length (e .1)) (c .vals)
+
+abbrev pub ctrlWeight : ControlInst → ℕ
+ctrlWeight c = imm * immTotal (ctrlInsts (c .kind)) + (length (c .ins) + (2 * movedBy c + length (c .to)))
+
+-- a node: what its entry's way out reads, and what moves along the edges to it that have no values of their own
+abbrev pub readAt : Node → List Value
+readAt (block is) = []
+readAt (select k v cs ds) = v ∷ []
+readAt (loop b c vs) = []
+readAt (exit i vs) = vs
+
+abbrev pub initsOf : Node → List Value
+initsOf (block is) = []
+initsOf (select k v cs ds) = []
+initsOf (loop b c vs) = vs
+initsOf (exit i vs) = []
+
+module _ (F : Func) where
+  -- the ops of a block
+  abbrev pub opsWeight : List ℕ → ℕ
+  opsWeight is = total (λ i. opWeight (opOf F i)) is
+
+  abbrev pub nodeWeight : Node → ℕ
+  nodeWeight d = (head + imm + 2) + (1 + (length (childrenOf d) + (imm * immTotal (nodeInsts d) + (length (readAt d) + opsWeight (blockOps d)))))
+
+  -- a visited point, but for its phis, and then with two words for each value that it sends to others
+  abbrev pub blockWeight : BlockLifting → ℕ
+  blockWeight b = (head + head) + (opsWeight (b .ops) + endWeight (b .term))
+
+  abbrev pub sent : CfgPoint × BlockLifting → ℕ
+  sent x = blockWeight (x .1) + 2 * flow (walkOf F) (x .1 .term)
+
+  -- the same by what the text has for the point, but for its label and the head of its way out, and for the inits of a loop, which the point
+  -- before it sends
+  abbrev pub weightAt : CfgPoint → ℕ
+  weightAt (regionEntry r) = 1
+  weightAt (regionExit r) = 3 + (2 * length (regionOf F r .outs) + weighed ctrlWeight (ctrlOf F r))
+  weightAt (nodeEntry n) = nodeWeight (nodeOf F n)
+  weightAt (nodeExit n) = 1
+
+  abbrev pub defaultsAt : CfgPoint → List Value
+  defaultsAt (regionEntry r) = []
+  defaultsAt (regionExit r) = []
+  defaultsAt (nodeEntry n) = initsOf (nodeOf F n)
+  defaultsAt (nodeExit n) = []
+
+  abbrev pub pointWeight : CfgPoint → ℕ
+  pointWeight p = ((head + head) + weightAt p) + 2 * length (defaultsAt p)

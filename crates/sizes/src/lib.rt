@@ -1,0 +1,1 @@
+// How long a list can get; all of it stands in specs/.
