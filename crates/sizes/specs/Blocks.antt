@@ -1,6 +1,6 @@
 -- The words of all kept blocks, as a sum over the visited points: any pass over kept blocks weighs at most what it weighs at each visited point.
 -- Assumes nothing.
-use mathlib.Core.Path.{_≡_, refl, sym, ap, _∙_, subst}
+use mathlib.Core.Path.{_≡_, refl, ap, _∙_}
 use mathlib.Core.Bool.{Bool, true, false}
 use mathlib.Core.List.{List, [], _∷_, _++_, map}
 use Prim.Native.Nat.{ℕ, zero, suc, _+_, _*_, _≤_}
@@ -9,7 +9,7 @@ use lib.ListN.{getD, length, length-append, length-map}
 use Rattle.opcodes.specs.Table.{opcodeOf}
 use Rattle.opcodes.specs.declared.InstKind.the-variants.{LoopMerge, SelectionMerge}
 use Rattle.lifting.specs.Lists.{gather}
-use Rattle.lifting.specs.Ast.{ControlInstKind, DataInstKind, Decl, Func, Imm, SelectionKind, Value, boolCond, branch, call, const, exitInvocation, ext, inst, return, selectBranch, spvInst, unreachable}
+use Rattle.lifting.specs.Ast.{ControlInstKind, DataInstKind, Decl, Func, Imm, Value, boolCond, branch, call, const, exitInvocation, ext, inst, return, selectBranch, spvInst, unreachable}
 use Rattle.lifting.specs.Parts.{calleeIds, ctrlInsts, opInsts, opOf}
 use Rattle.lifting.specs.Points.{BlockLifting, CfgPoint, Merge, Table, Terminator, edgeOf, loopMerge, noMerge, selectionMerge}
 use Rattle.lifting.specs.Walk.{walkOf}
@@ -22,7 +22,7 @@ use Rattle.flat.specs.Gathered.{gather-none, gather-one, words-gather}
 use Rattle.flat.specs.Flat.{Pass, Status, glueAt, goes, gone, noPair, part, partAt, starts, statusAt, unlessGlued, upTo}
 use Rattle.flat.specs.FlatLaws.{upTo-cons}
 use Rattle.flat.specs.ListFlat.{pairing, writing}
-use Rattle.flat.specs.Totals.{total, total-add, total-none}
+use Rattle.flat.specs.Totals.{total, total-add}
 use Rattle.flat.specs.Laws
 use Rattle.sizes.specs.Sums.{length-gather, total-append, total-le, total-map, total-ones, total-scale, total-swap}
 use Rattle.sizes.specs.Weights.{blockWeight, edgeWeight, endWeight, flow, head, ifTo, imm, immTotal, mergeWeight, opWeight, opsWeight, sent}
@@ -33,6 +33,7 @@ module _ {A : Type 0} (wt : A → ℕ) (m : Pass A) (e : Terminator → ℕ) (en
   abbrev pub partWeight : CfgPoint × BlockLifting → ℕ
   partWeight x = total wt (m .start (x .0) (x .1 .keys) (x .1 .decls)) + (total wt (gather (m .op) (x .1 .ops)) + e (x .1 .term))
 
+  -- an end that may be absorbed, a part, and all parts
   end-weight : (g : Bool) (h : CfgPoint) (t : Terminator) → total wt (unlessGlued m g (m .end h t)) ≤ e t
   end-weight true h t = omega arith
   end-weight false h t = ends h t
@@ -63,13 +64,16 @@ module _ {A : Type 0} (wt : A → ℕ) (m : Pass A) (e : Terminator → ℕ) (en
   unfolding partAt
   pass-weight c T = run-weight T (partAt c m T) (λ i. part-weight (statusAt c T i) (glueAt c T i) (getD T i noPair))
 
--- an instruction
+-- the words of immediates, of a list and of an instruction
 length-imms : (l : List Imm) → length (immWords l) ≡ imm * length l
 length-imms [] = refl
 length-imms (m ∷ l) = omega (arith, length-imms l)
 
 abbrev pub instWeight : Instruction → ℕ
 instWeight i = length (instWords i)
+
+pub length-words : (l : List Instruction) → length (words l) ≡ total instWeight l
+length-words l = ap length (words-gather l) ∙ length-gather instWords l
 
 pub length-inst : (i : Instruction) → instWeight i ≡ head + (imm * length (i .imms) + length (i .ids))
 unfolding instWords
@@ -125,6 +129,7 @@ module _ (F : Func) (ok : Shaped F) (first : ℕ) where
       ends : (h : CfgPoint) (t : Terminator) → total one (pairing F first T K q j .end h t) ≤ each t
       ends h t = by-count h t (countIn q (t .targets))
 
+  -- the phis of a block, and its start
   phis-weight : (q : CfgPoint) (ks : List Value) (ds : List Decl) (j : ℕ) → total instWeight (phiInsts F first T K q ks ds j) ≤ head * length ks + 2 * edgesTo q (length ks)
   unfolding phiInsts phiInst
   phis-weight q [] ds j = omega arith
@@ -145,6 +150,7 @@ module _ (F : Func) (ok : Shaped F) (first : ℕ) where
   unfolding labelInst
   start-weight q ks ds = omega (arith, length-inst (labelInst F first T K q), phis-weight q ks ds 0)
 
+  -- ops
   op-weight : (i : ℕ) → instWeight (opInst F first T K i) ≤ opWeight (opOf F i)
   unfolding opInst
   op-weight i = omega (
@@ -163,6 +169,7 @@ module _ (F : Func) (ok : Shaped F) (first : ℕ) where
     total-le (λ i. instWeight (opInst F first T K i)) (λ i. opWeight (opOf F i)) is (λ i j. op-weight i),
   )
 
+  -- merge and way out
   merge-weight : (m : Merge) → total instWeight (mergeInsts F first T K m) ≤ mergeWeight m
   unfolding mergeInsts
   merge-weight noMerge = omega arith
@@ -190,11 +197,9 @@ module _ (F : Func) (ok : Shaped F) (first : ℕ) where
   taken x = edgesTo (x .0) (phis x)
 
   -- All kept blocks: their phis, and what each visited point writes and sends to phis. What all take is what all send.
-  pub blocks-weight : length (words (blockInsts F first T K K)) ≤ head * length (phiKeys T) + total (sent F) T
+  pub blocks-weight : total instWeight (blockInsts F first T K K) ≤ head * length (phiKeys T) + total (sent F) T
   blocks-weight = omega (
     arith,
-    ap length (words-gather (blockInsts F first T K K)),
-    length-gather instWords (blockInsts F first T K K),
     ap (total instWeight) (Laws.instructions-are F ok first),
     pass-weight instWeight (writing F first T K) (λ t. head + endWeight t) way-weight (useCount T) T,
     total-le (partWeight instWeight (writing F first T K) (λ t. head + endWeight t) way-weight) (λ x. blockWeight F (x .1) + (head * phis x + 2 * taken x)) T

@@ -1,6 +1,6 @@
 -- What the visited points write and send, by what the text has for each point: the values along an edge are a loop's inits, a region's outputs or
 -- one entry of a ctrl line, and the point that sends a loop's inits is the one before it. Assumes nothing.
-use mathlib.Core.Path.{_≡_, refl, sym, ap, _∙_, subst}
+use mathlib.Core.Path.{_≡_, refl, sym, ap, _∙_}
 use mathlib.Core.Logic.{inl, inr}
 use mathlib.Core.Bool.{Bool, true, false}
 use mathlib.Core.List.{List, [], _∷_, map}
@@ -11,7 +11,7 @@ use lib.ListN.{length, length-map}
 use Rattle.lifting.specs.Lists.{choose, choose-no, find}
 use Rattle.lifting.specs.Ast.{ControlInst, Func, Node, Value, block, exit, loop, select}
 use Rattle.lifting.specs.Parts.{childrenOf, ctrlOf, nodeOf, regionOf, valsOr}
-use Rattle.lifting.specs.Points.{BlockLifting, CfgPoint, Table, Terminator, eqPoint, nodeEntry, nodeExit, nothingHere, points, regionEntry, regionExit, straight}
+use Rattle.lifting.specs.Points.{BlockLifting, CfgPoint, Table, Terminator, eqPoint, nodeEntry, nodeExit, points, regionEntry, regionExit, straight}
 use Rattle.lifting.specs.Walk.{Place, always, childTerm, exitTerm, inBlock, inNode, loopTerm, nextPoint, rootTerm, someVals, top, walkOf}
 use Rattle.lifting.specs.Absorb.{countIn}
 use Rattle.runs.specs.Members.{All, In, all-in, here, in-cases, in-nil, map-in, there}
@@ -22,9 +22,9 @@ use Rattle.runs.specs.Terms.{TermOk}
 use Rattle.runs.specs.Shaped.{Shaped, terms, walk-once}
 use Rattle.flat.specs.Chain.{Chain, chain-all, firstOf, some-same}
 use Rattle.flat.specs.Steps.{Step, placed, step-entry, step-exit, step-in, step-out, walk-steps}
-use Rattle.flat.specs.Totals.{total, total-none}
+use Rattle.flat.specs.Totals.{total}
 use Rattle.sizes.specs.Sums.{total-find, total-keys, total-le, total-map, total-once, weighed}
-use Rattle.sizes.specs.Weights.{blockWeight, ctrlWeight, defaultsAt, edgeWeight, endWeight, flow, head, ifTo, initsOf, movedBy, nodeWeight, opsWeight, pointWeight, sent, weightAt}
+use Rattle.sizes.specs.Weights.{ctrlWeight, defaultsAt, edgeWeight, endWeight, flow, head, ifTo, initsOf, nodeWeight, opsWeight, pointWeight, sent, weightAt}
 
 -- Sums along a chain: where f of each entry is at most g of it and a of the next point, all f are at most all g and all a.
 module _ (P : CfgPoint × BlockLifting → Option CfgPoint → Type 0) (f : CfgPoint × BlockLifting → ℕ) (g a : CfgPoint → ℕ) where
@@ -47,6 +47,7 @@ module _ (p q : CfgPoint) where
   elsewhere [] ds m = refl
   elsewhere (v ∷ vs) ds m = ap (λ (o : Option (List Value)). valsOr o ds) (choose-no (eqPoint p q) (some (v ∷ vs)) none m)
 
+-- a weight that counts only where a way leads
 if-low : (c n m : ℕ) → n ≤ m → ifTo c n ≤ m
 if-low zero n m h = omega arith
 if-low (suc c) n m h = h
@@ -79,6 +80,7 @@ module _ (F : Func) (ok : Shaped F) where
   abbrev carried : Terminator → CfgPoint → ℕ
   carried t p = ifTo (countIn p (t .targets)) (length (valsOr (find eqPoint p (t .vals)) (defaultsAt F p)))
 
+  -- as many values as the target has phis
   edge-carried : (t : Terminator) → TermOk T t → (x : CfgPoint × BlockLifting) → In x T → edgeWeight (x .0) (length (x .1 .keys)) t ≤ carried t (x .0)
   edge-carried t tk x i = by-count (countIn (x .0) (t .targets)) refl
     where
@@ -187,6 +189,7 @@ module _ (F : Func) (ok : Shaped F) where
             (λ p h m. elim (in-cases h) [ inl z ↦ absurd (m z) | inr y ↦ elim (in-cases y) [ inl z ↦ ap (defaultsAt F) z | inr z ↦ absurd (in-nil z) ] ]),
       )
 
+  -- at any region's exit
   exit-weight : (r : ℕ) (p : Place) → Visited F r p → TermOk T (exitTerm F r p) → endWeight (exitTerm F r p) + 2 * flow T (exitTerm F r p) ≤ weightAt F (regionExit r)
   exit-weight r top v tk = omega (arith, root-weight (ctrlOf F r) r tk)
   exit-weight r (inNode n) v tk = omega (arith, child-weight r n (nodeOf F n) refl (placed F (ok .targets) v) tk)
@@ -198,6 +201,7 @@ module _ (F : Func) (ok : Shaped F) where
   step-weight x o (step-out {r} {ns} v sf) tk = omega (arith, straight-flow (nextPoint r ns) tk)
   step-weight x o (step-exit {r} {p} v a) tk = omega (arith, exit-weight r p v tk)
 
+  -- all visited points
   pub points-weight : total (sent F) T ≤ total (pointWeight F) (points T)
   points-weight = omega (
     arith,

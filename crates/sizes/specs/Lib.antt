@@ -2,3 +2,5 @@ pub mod Sums
 pub mod Weights
 pub mod Blocks
 pub mod Flow
+pub mod Lines
+pub mod Bound

@@ -5,7 +5,7 @@ use mathlib.Core.Logic.{_⊎_, inl, inr}
 use mathlib.Core.List.{List, [], _∷_, _++_, map}
 use mathlib.Core.Option.{Option, none, some}
 use Prim.Native.Nat.{ℕ, _+_, _*_, _≤_}
-use native.Mathlib.Nat.{mul-add, mul-zero}
+use native.Mathlib.Nat.{mul-add, mul-one, mul-zero}
 use native.Mathlib.Omega.{arith}
 use lib.ListN.{getD, length, length-append}
 use Rattle.lifting.specs.Lists.{below, choose, find, gather, keys}
@@ -46,6 +46,9 @@ total-ones (x ∷ l) = omega (arith, total-ones l)
 pub total-scale : {A : Type 0} (c : ℕ) (f : A → ℕ) (l : List A) → total (λ x. c * f x) l ≡ c * total f l
 total-scale c f [] = sym (mul-zero c)
 total-scale c f (x ∷ l) = ap (λ (n : ℕ). c * f x + n) (total-scale c f l) ∙ sym (mul-add c (f x) (total f l))
+
+pub total-plus : {A : Type 0} (c : ℕ) (f : A → ℕ) (l : List A) → total (λ x. c + f x) l ≡ c * length l + total f l
+total-plus c f l = total-add (λ x. c) f l ∙ ap (λ (n : ℕ). n + total f l) (ap (λ (n : ℕ). total (λ x. n) l) (sym (mul-one c)) ∙ total-scale c (λ x. 1) l ∙ ap (λ (n : ℕ). c * n) (total-ones l))
 
 -- rows and columns
 pub total-swap : {A B : Type 0} (f : A → B → ℕ) (k : List A) (l : List B) → total (λ x. total (f x) l) k ≡ total (λ y. total (λ x. f x y) k) l

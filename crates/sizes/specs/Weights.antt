@@ -1,5 +1,4 @@
 -- What the parts of a text can add to its list, in words, and the number of words that no list exceeds. Definitions. Assumes nothing.
-use mathlib.Core.Path.{_≡_, refl}
 use mathlib.Core.List.{List, [], _∷_}
 use Prim.Native.Nat.{ℕ, zero, suc, _+_, _*_}
 use lib.ListN.{length}
@@ -20,9 +19,11 @@ head = 6
 abbrev pub imm : ℕ
 imm = 3
 
--- In order: function and end; parameters; label and way out of each point; a merge for each node; phis; ops, with a callee's id and a literal;
--- immediates; a value as an operand or an input is one word, in a phi two, its label too; targets of ctrl lines. Then the ids of other ways
--- out: of a region one at its entry, three at its exit (a loop's condition and two targets), one for a case; of a node one at each point.
+-- The most words of a list: 23,184, which is 10 + 6 + 384 + 6,144 + 1,408 + 3,072 + 5,120 + 1,536 + 4,096 + 512 + 640 + 256. In order: function,
+-- end, parameters; label and way out of each point, of which a region and a node have two each; a merge for each node; phis; ops, with a
+-- callee's id and a literal; immediates; a value is one word as an operand or an input, two in a phi, where its label stands behind it; targets
+-- of ctrl lines. Then the ids of all other ways out: of a region one at its entry, three at its exit (a loop's condition and two targets) and
+-- one where it is a case; of a node one at its entry and one at its exit.
 abbrev pub maxWords : ℕ
 maxWords =
     (head + imm + 1)
@@ -37,10 +38,6 @@ maxWords =
     + maxTargets
     + (1 + 3 + 1) * maxRegions
     + (1 + 1) * maxNodes
-
--- 16 + 384 + 6144 + 1408 + 3072 + 5120 + 1536 + 4096 + 512 + 640 + 256
-pub evaluated : maxWords ≡ 23184
-evaluated = refl
 
 -- the immediates of INSTs
 abbrev pub immTotal : List Inst → ℕ
@@ -97,18 +94,19 @@ module _ (F : Func) where
   abbrev pub opsWeight : List ℕ → ℕ
   opsWeight is = total (λ i. opWeight (opOf F i)) is
 
+  -- a node's entry, but for the heads: a merge, one target or a case each, immediates, inputs, ops
   abbrev pub nodeWeight : Node → ℕ
   nodeWeight d = (head + imm + 2) + (1 + (length (childrenOf d) + (imm * immTotal (nodeInsts d) + (length (readAt d) + opsWeight (blockOps d)))))
 
-  -- a visited point, but for its phis, and then with two words for each value that it sends to others
+  -- a visited point, but for its phis; and with two words for each value that it sends to others
   abbrev pub blockWeight : BlockLifting → ℕ
   blockWeight b = (head + head) + (opsWeight (b .ops) + endWeight (b .term))
 
   abbrev pub sent : CfgPoint × BlockLifting → ℕ
   sent x = blockWeight (x .1) + 2 * flow (walkOf F) (x .1 .term)
 
-  -- the same by what the text has for the point, but for its label and the head of its way out, and for the inits of a loop, which the point
-  -- before it sends
+  -- The same by what the text has for the point: but for the heads of its label and its way out, and for the inits of a loop, which the point
+  -- before it sends; those inits; and all of it.
   abbrev pub weightAt : CfgPoint → ℕ
   weightAt (regionEntry r) = 1
   weightAt (regionExit r) = 3 + (2 * length (regionOf F r .outs) + weighed ctrlWeight (ctrlOf F r))
