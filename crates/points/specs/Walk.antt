@@ -1,7 +1,7 @@
 -- What the walk asks of a function, and that its points are few enough for the work slice. Assumes nothing.
 --     walkable-checked    a text that passes refusals 4 to 7 is as asked
 --     walk-small, walk-few    the walk's points have small numbers and are at most 512
-use mathlib.Core.Path.{_≡_, refl, sym, ap, subst}
+use mathlib.Core.Path.{_≡_, refl, sym, subst}
 use mathlib.Core.Bool.{true}
 use mathlib.Core.List.{List, [], _∷_, map}
 use Prim.Native.Nat.{ℕ, _+_, _≤_, _<_}
@@ -10,23 +10,22 @@ use lib.Dec.{lit<}
 use lib.ListN.{length}
 use lib.Seq.{sets}
 use Rattle.lifting.specs.Ast.{Func, Region}
-use Rattle.lifting.specs.Parts.{hasBody, regionOf, childrenOf, nodeList}
+use Rattle.lifting.specs.Parts.{hasBody, regionOf, nodeList}
 use Rattle.lifting.specs.References.{referencesHold}
 use Rattle.lifting.specs.Tree.{isTree}
 use Rattle.lifting.specs.Counts.{countsAgree}
 use Rattle.lifting.specs.Control.{controlFits}
 use Rattle.lifting.specs.Order.{roots}
 use Rattle.lifting.specs.Points.{Table, points}
-use Rattle.lifting.specs.Walk.{Place, walkOf}
+use Rattle.lifting.specs.Walk.{walkOf}
 use Rattle.func.specs.Layout.{nodes}
 use Rattle.func.specs.Decode.{funcOf}
 use Rattle.func.specs.Tables.{Tables, node-total}
-use Rattle.runs.specs.Members.{In, here, All, all-in}
+use Rattle.runs.specs.Members.{In, All, all-in}
 use Rattle.runs.specs.Tests.{all-gather, in-at}
 use Rattle.runs.specs.Refers.{refers}
 use Rattle.runs.specs.Order.{roots-visited}
-use Rattle.runs.specs.Places.{Visited, at-body, in-case, in-loop, by-ctrl}
-use Rattle.runs.specs.Shaped.{Shaped, shaped-checked, walk-once}
+use Rattle.runs.specs.Shaped.{Shaped, shaped-checked, visited-low, walk-once}
 use Rattle.control.specs.Tables.{Named}
 use Rattle.control.specs.Meets.{named-refers}
 use Rattle.points.specs.Numbers.{pointsAt, pointsEnd, pointNumber, Small, points-few}
@@ -67,14 +66,8 @@ length-points [] = refl
 length-points (x ∷ T) = omega (arith, length-points T)
 
 module _ (F : Func) (ok : Walkable F) where
-  pub visited-low : {r : ℕ} {p : Place} → Visited F r p → r < length (F .regions)
-  visited-low at-body = ok .shaped .targets .some-region
-  visited-low (in-case {n} {c} v s e i) = ok .shaped .forest .child-range n c (subst (λ (l : List ℕ). In c l) (sym (ap childrenOf e)) i)
-  visited-low (in-loop {n} {b} v s e) = ok .shaped .forest .child-range n b (subst (λ (l : List ℕ). In b l) (sym (ap childrenOf e)) here)
-  visited-low (by-ctrl {r} {s} v e i) = ok .shaped .targets .in-range r s e i
-
   pub root-low : (r : ℕ) → In r (roots F) → r < length (F .regions)
-  root-low r i = visited-low (roots-visited F (ok .shaped .targets) r i)
+  root-low r i = visited-low F (ok .shaped) (roots-visited F (ok .shaped .targets) r i)
 
   module _ (few : length (F .nodes) ≤ 128) where
     pub walk-small : All Small (points (walkOf F))

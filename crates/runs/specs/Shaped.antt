@@ -3,7 +3,7 @@
 use mathlib.Core.Path.{_≡_, sym, ap, _∙_, subst}
 use mathlib.Core.Bool.{Bool, true, false}
 use mathlib.Core.List.{List, [], _∷_}
-use Prim.Native.Nat.{ℕ, suc}
+use Prim.Native.Nat.{ℕ, suc, _<_}
 use lib.ListN.{length}
 use Rattle.lifting.specs.Ast.{Func}
 use Rattle.lifting.specs.Parts.{hasBody, regionOf}
@@ -14,11 +14,11 @@ use Rattle.lifting.specs.Control.{controlFits}
 use Rattle.lifting.specs.Order.{roots}
 use Rattle.lifting.specs.Points.{BlockLifting, CfgPoint, Table, blockAt, nodeExit, points, regionEntry, regionExit}
 use Rattle.lifting.specs.Walk.{Place, entryBlock, top, walkOf, walkRoots}
-use Rattle.runs.specs.Members.{All, In, NoDup}
+use Rattle.runs.specs.Members.{All, In, NoDup, here}
 use Rattle.runs.specs.Accepted.{Accepted, Fitting, Forest, Targets}
 use Rattle.runs.specs.Refers.{refers}
 use Rattle.runs.specs.Fits
-use Rattle.runs.specs.Places.{Laid, Suffix, Visited}
+use Rattle.runs.specs.Places.{Laid, Suffix, Visited, at-body, by-ctrl, in-case, in-loop}
 use Rattle.runs.specs.AbsorbAll.{Tidy}
 use Rattle.runs.specs.Tour.{Tree, in-points}
 use Rattle.runs.specs.TourOnce.{roots-nodup}
@@ -56,6 +56,13 @@ module _ (F : Func) (ok : Shaped F) where
   pub walk-is : walkRoots F depth (roots F) ≡ walkOf F
   unfolding walkOf
   walk-is = sym (ap (λ (b : Bool). elim b as (λ (c : Bool). Table) [ true ↦ walkRoots F depth (roots F) | false ↦ [] ]) (ok .body))
+
+  -- a visited region is one of the text's
+  pub visited-low : {r : ℕ} {p : Place} → Visited F r p → r < length (F .regions)
+  visited-low at-body = ok .targets .some-region
+  visited-low (in-case {n} {c} v sf e i) = ok .forest .child-range n c (rw e i)
+  visited-low (in-loop {n} {b} v sf e) = ok .forest .child-range n b (rw e here)
+  visited-low (by-ctrl {r} {s} v e i) = ok .targets .in-range r s e i
 
   -- each point once
   pub walk-once : NoDup (points (walkOf F))

@@ -18,10 +18,10 @@ use Rattle.lifting.specs.Ids.{phiKeys}
 use Rattle.runs.specs.Members.{In, NoDup, all-in, gather-in, here, in-gather, in-left, in-map, in-nil, in-right, in-split, in-tabulate, length-tabulate, nodup-append, nodup-tabulate}
 use Rattle.runs.specs.Tests.{all-line, find-in}
 use Rattle.runs.specs.Refers.{Refers}
-use Rattle.runs.specs.Places.{Suffix, Visited, at-body, by-ctrl, in-case, in-loop}
+use Rattle.runs.specs.Places.{Suffix, Visited}
 use Rattle.runs.specs.TourLaid.{suffix-in}
 use Rattle.runs.specs.IdsOnce.{phis-nodup}
-use Rattle.runs.specs.Shaped.{Shaped, depth, in-order, tree, walk-is, walk-once}
+use Rattle.runs.specs.Shaped.{Shaped, depth, in-order, tree, visited-low, walk-is, walk-once}
 use Rattle.flat.specs.Chain.{chain-all}
 use Rattle.flat.specs.Steps.{Step, step-entry, step-exit, step-in, step-out, walk-steps}
 use Rattle.flat.specs.Kept.{point-block}
@@ -199,18 +199,12 @@ module _ (F : Func) where
     )
 
     -- visited regions and nodes are the text's
-    visited-low : {r : ℕ} {p : Place} → Visited F r p → r < length (F .regions)
-    visited-low at-body = ok .targets .some-region
-    visited-low (in-case {n} {c} v sf e i) = ok .forest .child-range n c (subst (λ (d : Node). In c (childrenOf d)) (sym e) i)
-    visited-low (in-loop {n} {b} v sf e) = ok .forest .child-range n b (subst (λ (d : Node). In b (childrenOf d)) (sym e) here)
-    visited-low (by-ctrl {r} {s} v e i) = ok .targets .in-range r s e i
-
     node-low : (r : ℕ) {n : ℕ} {ns : List ℕ} → Suffix (regionOf F r .nodes) (n ∷ ns) → n < length (F .nodes)
     unfolding nodeList
     node-low r {n} sf = all-in _ (regionOf F r .nodes) (all-line _ (λ (r : Region). r .nodes) (F .regions) (named .nodes-below) (record { ins = []; nodes = []; outs = [] }) refl r) n (suffix-in F sf here)
 
     in-regions : {r : ℕ} {p : Place} → Visited F r p → In r (below (length (F .regions)))
-    in-regions {r} v = in-below (length (F .regions)) r (visited-low v)
+    in-regions {r} v = in-below (length (F .regions)) r (visited-low F ok v)
 
     in-nodes : (r : ℕ) {n : ℕ} {ns : List ℕ} → Suffix (regionOf F r .nodes) (n ∷ ns) → In n (below (length (F .nodes)))
     in-nodes r {n} sf = in-below (length (F .nodes)) n (node-low r sf)

@@ -15,13 +15,14 @@ use Rattle.lifting.specs.Walk.{Place, entryBlock, exitBlock, inBlock, inNode, o
 use Rattle.runs.specs.Members.{In, here, in-nil}
 use Rattle.runs.specs.Places as places
 use Rattle.runs.specs.TourLaid.{suffix-in}
+use Rattle.runs.specs.Shaped.{visited-low}
 use Rattle.flat.specs.Flat.{noPair}
 use Rattle.flat.specs.Chain.{firstOf}
 use Rattle.flat.specs.Steps.{Placed, Step, placed, step-entry, step-exit, step-in, step-out}
 use Rattle.flat.specs.Laws.{steps}
 use Rattle.points.specs.Numbers.{Small}
 use Rattle.points.specs.Parents.{parentOf, parent-is, parent-none}
-use Rattle.points.specs.Walk.{Walkable, visited-low}
+use Rattle.points.specs.Walk.{Walkable}
 
 -- where a region stands, from its parent's word
 abbrev pub placeBy : ℕ → Place
@@ -92,10 +93,10 @@ module _ (F : Func) (ok : Walkable F) where
   step-block (step-exit {r} v a) = ap (exitBlock F r) (place-is v)
 
   step-low : {x : CfgPoint × BlockLifting} {o : Option CfgPoint} → Step F x o → InText F (x .0)
-  step-low (step-entry v) = visited-low F ok v
+  step-low (step-entry v) = visited-low F (ok .shaped) v
   step-low (step-in {r} {n} v sf e) = ok .node r n (suffix-in F sf here)
   step-low (step-out {r} {n} v sf) = ok .node r n (suffix-in F sf here)
-  step-low (step-exit v a) = visited-low F ok v
+  step-low (step-exit v a) = visited-low F (ok .shaped) v
 
   module _ (i : ℕ) (h : i < length (walkOf F)) where
     pub block-is : blockAt F i ≡ blockOf F (pointAt F i) (pointAt F (suc i))
