@@ -2,7 +2,7 @@
 --     aimed-checked   the entries of a text that passes refusal 4 name regions
 --     edges-few       there are at most 1,024 edges: one for each position, and one for each entry of a ctrl line
 --     edges-fit       all of them fit the tables
-use mathlib.Core.Path.{_≡_, refl, sym, ap, subst}
+use mathlib.Core.Path.{_≡_, refl, ap, subst}
 use mathlib.Core.Bool.{Bool, true, false, _&&_}
 use mathlib.Core.List.{List, [], _∷_, _++_, map}
 use mathlib.Core.Option.{Option, none, some}
@@ -12,7 +12,7 @@ use native.Mathlib.Omega.{arith}
 use lib.Dec.{leb, ltb}
 use lib.ListN.{getD, length, length-append, length-map}
 use borrow.Author.Tests.{ltb-true}
-use Rattle.lifting.specs.Lists.{choose, choose-yes, choose-no, distinct, every, find, gather, keys, tabulate}
+use Rattle.lifting.specs.Lists.{choose, choose-yes, distinct, every, find, gather, keys, tabulate}
 use Rattle.lifting.specs.Ast.{ControlInst, Func, Node, Value, block, exit, loop, select}
 use Rattle.lifting.specs.Parts.{childList, ctrlOf, ctrlRegions, insts, nodeOf, regionOf, requiredIds, values}
 use Rattle.lifting.specs.Limits.{maxOpcode}
@@ -24,14 +24,14 @@ use Rattle.func.specs.Whole.{entryList}
 use Rattle.func.specs.Decode.{funcOf}
 use Rattle.func.specs.Tables.{ctrlLine, entryOf}
 use Rattle.parsed.specs.Parsed.{Few, few-control}
-use Rattle.runs.specs.Members.{All, In, NoDup, all-from, all-in, here, in-getD, in-nil, in-right, there}
+use Rattle.runs.specs.Members.{All, In, NoDup, all-from, all-in, in-getD, in-nil, in-right}
 use Rattle.runs.specs.Tests.{all-part, all-split, both, every-all}
 use Rattle.runs.specs.Places.{Visited, at-body, by-ctrl, in-case, in-loop}
 use Rattle.runs.specs.Shaped.{Shaped}
 use Rattle.checks.specs.Same.{Stands}
 use Rattle.flat.specs.Flat.{noPair}
 use Rattle.flat.specs.Steps.{Step, step-entry, step-exit, step-in, step-out}
-use Rattle.flat.specs.Totals.{total}
+use Rattle.flat.specs.Totals.{total, total-once}
 use Rattle.flat.specs.Laws.{each-once, steps}
 use Rattle.term.specs.At.{blockAt, pointAt}
 use Rattle.term.specs.Edges.{edgesBy, entryEdges, soleEdge, termEdges}
@@ -113,20 +113,6 @@ total-sum : (f g h : CfgPoint → ℕ) → ((p : CfgPoint) → f p ≤ g p + h p
 total-sum f g h a [] = omega arith
 total-sum f g h a (p ∷ l) = omega (arith, a p, total-sum f g h a l)
 
--- a point that stands once counts once
-total-absent : (x : CfgPoint) (n : ℕ) (l : List CfgPoint) → ¬ (In x l) → total (atPoint x n) l ≡ 0
-total-absent x n [] a = refl
-total-absent x n (p ∷ l) a =
-    omega (arith, choose-no {A = ℕ} (eqPoint p x) n 0 (λ e. a (subst (λ (y : CfgPoint). In y (p ∷ l)) e here)), total-absent x n l (λ i. a (there i)))
-
-total-once : (x : CfgPoint) (n : ℕ) (l : List CfgPoint) → NoDup l → total (atPoint x n) l ≤ n
-total-once x n [] u = omega arith
-total-once x n (p ∷ l) u = by-case (eqPoint p x) (total-once x n l (u .1))
-  where
-    by-case : (d : Dec (p ≡ x)) → total (atPoint x n) l ≤ n → choose d n 0 + total (atPoint x n) l ≤ n
-    by-case (yes e) ih = omega (arith, total-absent x n l (λ i. u .0 (subst (λ (y : CfgPoint). In y l) (sym e) i)))
-    by-case (no m) ih = omega arith
-
 -- the lines of distinct regions have no more entries than all lines together
 entries-once : (L : List (ℕ × ControlInst)) (l : List CfgPoint) → NoDup l → total (entriesAt L) l ≤ length (gather (λ c. c .1 .vals) L)
 entries-once [] l u = omega (arith, entries-none l)
@@ -134,7 +120,7 @@ entries-once (x ∷ L) l u =
     omega (
       arith,
       total-sum (entriesAt (x ∷ L)) (atPoint (regionExit (x .0)) (length (x .1 .vals))) (entriesAt L) (entries-more x L) l,
-      total-once (regionExit (x .0)) (length (x .1 .vals)) l u,
+      total-once eqPoint (regionExit (x .0)) (length (x .1 .vals)) l u,
       entries-once L l u,
       length-append (x .1 .vals) (gather (λ c. c .1 .vals) L),
     )

@@ -70,13 +70,23 @@ pub total-none : {A : Type 0} (l : List A) → total (λ p. 0) l ≡ 0
 total-none [] = refl
 total-none (p ∷ l) = omega (arith, total-none l)
 
-total-out : (q : CfgPoint) (l : List CfgPoint) → ¬ (In q l) → total (λ p. one p q) l ≡ 0
-total-out q [] n = refl
-total-out q (p ∷ l) n =
-    omega (arith, choose-no {A = ℕ} (eqPoint p q) 1 0 (λ e. n (subst (λ (r : CfgPoint). In r (p ∷ l)) e here)), total-out q l (λ i. n (there i)))
+-- what counts at one key only: nothing where the key does not stand, and no more than once where none stands twice
+module _ {K : Type 0} (eq : (x y : K) → Dec (x ≡ y)) (y : K) (n : ℕ) where
+  pub total-absent : (ks : List K) → ¬ (In y ks) → total (λ k. choose (eq k y) n 0) ks ≡ 0
+  total-absent [] a = refl
+  total-absent (k ∷ ks) a =
+      omega (arith, choose-no {A = ℕ} (eq k y) n 0 (λ e. a (subst (λ (z : K). In z (k ∷ ks)) e here)), total-absent ks (λ i. a (there i)))
+
+  pub total-once : (ks : List K) → NoDup ks → total (λ k. choose (eq k y) n 0) ks ≤ n
+  total-once [] u = omega arith
+  total-once (k ∷ ks) u = by-case (eq k y) (total-once ks (u .1))
+    where
+      by-case : (d : Dec (k ≡ y)) → total (λ k. choose (eq k y) n 0) ks ≤ n → choose d n 0 + total (λ k. choose (eq k y) n 0) ks ≤ n
+      by-case (yes e) ih = omega (arith, total-absent ks (subst (λ (z : K). ¬ (In z ks)) e (u .0)))
+      by-case (no m) ih = omega arith
 
 total-in : (q : CfgPoint) (l : List CfgPoint) → NoDup l → In q l → total (λ p. one p q) l ≡ 1
-total-in q l n (here {l = k}) = omega (arith, choose-yes {A = ℕ} (eqPoint q q) 1 0 refl, total-out q k (n .0))
+total-in q l n (here {l = k}) = omega (arith, choose-yes {A = ℕ} (eqPoint q q) 1 0 refl, total-absent eqPoint q 1 k (n .0))
 total-in q l n (there {y = p} {l = k} i) =
     omega (arith, choose-no {A = ℕ} (eqPoint p q) 1 0 (λ e. n .0 (subst (λ (r : CfgPoint). In r k) (sym e) i)), total-in q k (n .1) i)
 

@@ -22,8 +22,8 @@ use Rattle.runs.specs.Terms.{TermOk}
 use Rattle.runs.specs.Shaped.{Shaped, terms, walk-once}
 use Rattle.flat.specs.Chain.{Chain, chain-all, firstOf, some-same}
 use Rattle.flat.specs.Steps.{Step, placed, step-entry, step-exit, step-in, step-out, walk-steps}
-use Rattle.flat.specs.Totals.{total}
-use Rattle.sizes.specs.Sums.{total-find, total-keys, total-le, total-map, total-once, weighed}
+use Rattle.flat.specs.Totals.{total, total-once}
+use Rattle.sizes.specs.Sums.{total-find, total-keys, total-le, total-map, weighed}
 use Rattle.sizes.specs.Weights.{ctrlWeight, defaultsAt, edgeWeight, endWeight, flow, head, ifTo, initsOf, nodeWeight, opsWeight, pointWeight, sent, weightAt}
 
 -- Sums along a chain: where f of each entry is at most g of it and a of the next point, all f are at most all g and all a.

@@ -10,7 +10,7 @@ use native.Mathlib.Omega.{arith}
 use lib.ListN.{getD, length, length-append}
 use Rattle.lifting.specs.Lists.{below, choose, find, gather, keys}
 use Rattle.runs.specs.Members.{In, NoDup, here, in-cases, map-tabulate, tabulate-all, there}
-use Rattle.flat.specs.Totals.{total, total-add, total-none}
+use Rattle.flat.specs.Totals.{total, total-add, total-none, total-once}
 
 -- each weight at most another
 pub total-le : {A : Type 0} (f g : A → ℕ) (l : List A) → ((x : A) → In x l → f x ≤ g x) → total f l ≤ total g l
@@ -81,23 +81,6 @@ weighed f none = 0
 weighed f (some a) = f a
 
 module _ {K : Type 0} (eq : (x y : K) → Dec (x ≡ y)) where
-  -- one key of a list without repeats
-  absent : (y : K) (n : ℕ) (ks : List K) → ¬ (In y ks) → total (λ k. choose (eq k y) n 0) ks ≡ 0
-  absent y n [] a = refl
-  absent y n (k ∷ ks) a = by-case (eq k y) (absent y n ks (λ i. a (there i)))
-    where
-      by-case : (d : Dec (k ≡ y)) → total (λ k. choose (eq k y) n 0) ks ≡ 0 → choose d n 0 + total (λ k. choose (eq k y) n 0) ks ≡ 0
-      by-case (yes e) ih = absurd (a (subst (λ (z : K). In z (k ∷ ks)) e here))
-      by-case (no m) ih = omega arith
-
-  pub total-once : (y : K) (n : ℕ) (ks : List K) → NoDup ks → total (λ k. choose (eq k y) n 0) ks ≤ n
-  total-once y n [] u = omega arith
-  total-once y n (k ∷ ks) u = by-case (eq k y) (total-once y n ks (u .1))
-    where
-      by-case : (d : Dec (k ≡ y)) → total (λ k. choose (eq k y) n 0) ks ≤ n → choose d n 0 + total (λ k. choose (eq k y) n 0) ks ≤ n
-      by-case (yes e) ih = omega (arith, absent y n ks (subst (λ (z : K). ¬ (In z ks)) e (u .0)))
-      by-case (no m) ih = omega arith
-
   -- what keys without repeats find in a list of entries
   pub total-find : {A : Type 0} (f : A → ℕ) (ks : List K) → NoDup ks → (l : List (K × A)) → total (λ k. weighed f (find eq k l)) ks ≤ total (λ x. f (x .1)) l
   total-find f ks u [] = omega (arith, total-none ks)
@@ -105,7 +88,7 @@ module _ {K : Type 0} (eq : (x y : K) → Dec (x ≡ y)) where
     arith,
     total-le (λ k. weighed f (find eq k (x ∷ l))) (λ k. choose (eq k (x .0)) (f (x .1)) 0 + weighed f (find eq k l)) ks (λ k i. by-case (eq k (x .0)) (find eq k l)),
     total-add (λ k. choose (eq k (x .0)) (f (x .1)) 0) (λ k. weighed f (find eq k l)) ks,
-    total-once (x .0) (f (x .1)) ks u,
+    total-once eq (x .0) (f (x .1)) ks u,
     total-find f ks u l,
   )
     where
