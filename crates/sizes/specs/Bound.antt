@@ -29,7 +29,7 @@ use Rattle.runs.specs.Refers.{Refers, refers}
 use Rattle.runs.specs.Shaped.{Shaped, shaped-checked}
 use Rattle.flat.specs.Totals.{total}
 use Rattle.sizes.specs.Sums.{total-append}
-use Rattle.sizes.specs.Weights.{head, imm, maxWords}
+use Rattle.sizes.specs.Weights.{head, imm, linesWeight, maxWords}
 use Rattle.sizes.specs.Blocks.{blocks-weight, instWeight, length-inst, length-words}
 use Rattle.sizes.specs.Flow.{points-weight}
 use Rattle.sizes.specs.Lines.{phi-lines, points-lines}
@@ -59,11 +59,8 @@ module _ (F : Func) (first : ℕ) where
     length-inst (endInst F first T K),
   )
 
-  -- the blocks of a text with a body, by the counts of its lines
-  abbrev counted : ℕ
-  counted = head * length (decls F) + (29 * length (F .regions) + (37 * length (F .nodes) + (10 * length (F .ops) + (imm * length (immediates F) + (2 * length (values F) + length (targets F))))))
-
-  body-weight : Shaped F → Refers F → total instWeight (blockInsts F first T K K) ≤ counted
+  -- the blocks of a text with a body
+  body-weight : Shaped F → Refers F → total instWeight (blockInsts F first T K K) ≤ head * length (decls F) + linesWeight F
   body-weight ok named = omega (arith, blocks-weight F ok first, phi-lines F ok named, points-weight F ok, points-lines F ok named)
 
   -- an imported function has none
@@ -74,7 +71,7 @@ module _ (F : Func) (first : ℕ) where
       (ap (λ (b : Bool). elim b as (λ (c : Bool). Table) [ true ↦ walkRoots F (suc (length (F .regions))) (roots F) | false ↦ [] ]) e)
 
   -- the limits of refusal 3
-  limits-weight : withinLimits F ≡ true → ((head + imm + 1) + head) + (head * length (F .params) + counted) ≤ maxWords
+  limits-weight : withinLimits F ≡ true → ((head + imm + 1) + head) + (head * length (F .params) + (head * length (decls F) + linesWeight F)) ≤ maxWords
   unfolding withinLimits
   limits-weight e =
       let i = both _ (leb (length (targets F)) maxTargets) e in
@@ -115,6 +112,7 @@ by-test : {A : Type 0} (P : A → Type 0) (b : Bool) (x y : A) → (b ≡ false 
 by-test P false x y f t = f refl
 by-test P true x y f t = t refl
 
+-- the refusals in their order
 module _ (first out : ℕ) where
   abbrev Claim : Parsed → Type 0
   Claim p = Bounded out (lifted p first out)

@@ -120,7 +120,7 @@ module _ (F : Func) (ok : Shaped F) where
   straight-flow : (q : CfgPoint) → TermOk T (straight q) → flow T (straight q) ≤ length (defaultsAt F q)
   straight-flow q tk = sole (straight q) tk q [] (length (defaultsAt F q)) refl (omega arith) (omega arith) (λ p i m. elim (in-cases i) [ inl e ↦ absurd (m e) | inr z ↦ absurd (in-nil z) ])
 
-  -- no edge to a region's entry is without values
+  -- an edge to a region's entry has no values without an entry of its own
   entry-none : (rs : List ℕ) (p : CfgPoint) → In p (map regionEntry rs) → defaultsAt F p ≡ []
   entry-none rs p i = ap (defaultsAt F) (map-in regionEntry rs i .2)
 

@@ -27,7 +27,7 @@ use Rattle.flat.specs.Steps.{Step, step-entry, step-exit, step-in, step-out, wa
 use Rattle.flat.specs.Kept.{point-block}
 use Rattle.flat.specs.Totals.{total, total-add, total-none}
 use Rattle.sizes.specs.Sums.{length-gather, total-append, total-find, total-gather, total-le, total-lines, total-map, total-ones, total-plus, total-scale, total-within, weighed}
-use Rattle.sizes.specs.Weights.{ctrlWeight, imm, immTotal, initsOf, opWeight, opsWeight, pointWeight, readAt}
+use Rattle.sizes.specs.Weights.{ctrlWeight, imm, immTotal, initsOf, linesWeight, opWeight, opsWeight, pointWeight, readAt}
 
 -- the numbers below n, each once
 in-below : (n i : ℕ) → i < n → In i (below n)
@@ -237,9 +237,8 @@ module _ (F : Func) where
         let w = point-block p T i in
         all-in (λ x. In (x .0) allPoints) T (chain-all (Step F) _ step-point T none (walk-steps F ok)) (p, w .0) (find-in eqPoint p T (w .1))
 
-    -- all visited points, by the counts of the text's lines
-    pub points-lines : total (pointWeight F) (points T)
-        ≤ 29 * length (F .regions) + (37 * length (F .nodes) + (10 * length (F .ops) + (imm * length (immediates F) + (2 * length (values F) + length (targets F)))))
+    -- all visited points
+    pub points-lines : total (pointWeight F) (points T) ≤ linesWeight F
     points-lines = omega (
       arith,
       total-within (pointWeight F) (points T) allPoints (walk-once F ok) a-point,

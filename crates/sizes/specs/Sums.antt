@@ -43,6 +43,7 @@ pub total-ones : {A : Type 0} (l : List A) → total (λ x. 1) l ≡ length l
 total-ones [] = refl
 total-ones (x ∷ l) = omega (arith, total-ones l)
 
+-- a factor and a constant
 pub total-scale : {A : Type 0} (c : ℕ) (f : A → ℕ) (l : List A) → total (λ x. c * f x) l ≡ c * total f l
 total-scale c f [] = sym (mul-zero c)
 total-scale c f (x ∷ l) = ap (λ (n : ℕ). c * f x + n) (total-scale c f l) ∙ sym (mul-add c (f x) (total f l))

@@ -3,7 +3,7 @@ use mathlib.Core.List.{List, [], _∷_}
 use Prim.Native.Nat.{ℕ, zero, suc, _+_, _*_}
 use lib.ListN.{length}
 use Rattle.lifting.specs.Ast.{ControlInst, Func, Inst, Node, Op, Value, block, exit, loop, select}
-use Rattle.lifting.specs.Parts.{blockOps, childrenOf, ctrlInsts, ctrlOf, nodeInsts, nodeOf, opInsts, opOf, regionOf}
+use Rattle.lifting.specs.Parts.{blockOps, childrenOf, ctrlInsts, ctrlOf, immediates, nodeInsts, nodeOf, opInsts, opOf, regionOf, targets, values}
 use Rattle.lifting.specs.Limits.{maxDecls, maxImmediates, maxNodes, maxOps, maxParams, maxRegions, maxTargets, maxValues}
 use Rattle.lifting.specs.Points.{BlockLifting, CfgPoint, Merge, Table, Terminator, loopMerge, noMerge, nodeEntry, nodeExit, regionEntry, regionExit, selectionMerge}
 use Rattle.lifting.specs.Walk.{walkOf}
@@ -121,3 +121,7 @@ module _ (F : Func) where
 
   abbrev pub pointWeight : CfgPoint → ℕ
   pointWeight p = ((head + head) + weightAt p) + 2 * length (defaultsAt p)
+
+  -- all points, by the counts of the text's lines
+  abbrev pub linesWeight : ℕ
+  linesWeight = 29 * length (F .regions) + (37 * length (F .nodes) + (10 * length (F .ops) + (imm * length (immediates F) + (2 * length (values F) + length (targets F)))))
