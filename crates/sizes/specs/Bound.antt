@@ -95,7 +95,7 @@ module _ (F : Func) (first : ℕ) where
       )
 
   -- a text that passes refusals 3 to 7
-  text-bound : withinLimits F ≡ true → referencesHold F ≡ true → isTree F ≡ true → countsAgree F ≡ true → controlFits F ≡ true → length (words (listOf F first)) ≤ maxWords
+  pub text-bound : withinLimits F ≡ true → referencesHold F ≡ true → isTree F ≡ true → countsAgree F ≡ true → controlFits F ≡ true → length (words (listOf F first)) ≤ maxWords
   text-bound limits references tree counts control = by-body (hasBody (F .regions)) refl
     where
       by-body : (b : Bool) → hasBody (F .regions) ≡ b → length (words (listOf F first)) ≤ maxWords
