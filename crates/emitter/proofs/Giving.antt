@@ -37,8 +37,8 @@ module _ (F : Func) (first n : ℕ) (out : List ℕ) where
   pub gives-values : valuesSet F ≡ false → Gives (emitted F first n) (Refused Values) out out
   gives-values e = gives-same {a = refused 10} (record { told = refl; words = refl }) (sym (by-values F first n e))
 
-  pub gives-room : valuesSet F ≡ true → leb (length (words (listOf F first))) n ≡ false → Gives (emitted F first n) (Refused Output) out out
-  gives-room e z = gives-same {a = refused 11} (record { told = refl; words = refl }) (sym (by-room F first n e z))
+  pub gives-room : valuesSet F ≡ true → leb (length (words (listOf F first))) n ≡ false → (k : ℕ) → Gives (emitted F first n) (Refused (Output k)) out out
+  gives-room e z k = gives-same {a = refused 11} (record { told = refl; words = refl }) (sym (by-room F first n e z))
 
   pub gives-list : valuesSet F ≡ true → leb (length (words (listOf F first))) n ≡ true → {k next : ℕ} {exit : List ℕ} → k ≡ length (words (listOf F first))
       → next ≡ nextId F first (walkOf F) (kept (walkOf F)) → exit ≡ words (listOf F first) ++ drop (length (words (listOf F first))) out

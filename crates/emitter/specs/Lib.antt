@@ -1,5 +1,6 @@
--- The list, the entry's answer, and demand 3 about the output slice.
+-- The list, the entry's answer, how long an output slice is wanted, and demand 3 about the output slice.
 pub mod Lift
+pub mod Wanted
 pub mod Listed
 pub mod Points
 pub mod Over

@@ -1,5 +1,7 @@
 -- The entry's answer by document 01's numbers, and how the answer of a text follows from its function. Assumes nothing.
+--     answerTo                      the answer to a text, a first id and three lent slices
 --     causeNumber, told, outcome    the number of each refusal; what is told: the word count and the next free id, or a refusal's number
+--     wanted, Wants                 the count of words of the text's list, which refusal 11 tells
 --     early, tabled                 a refusal of 8 and 1 to 7, and what a function in its tables is lifted to
 --     scratch-tables                both scratch slices end as zeros once the text is read
 --     by-ids, by-values, by-room, by-list    refusals 9 to 11 and the list
@@ -23,12 +25,16 @@ use Rattle.emitter.specs.declared.Cause.the-variants.{Text, Ids, Values,
 use Rattle.emitter.specs.declared.Lifted.{Lifted}
 use Rattle.emitter.specs.declared.Lifted.the-variants.{Whole, Refused}
 
+-- The answer goes by the text's bytes, the first id, and the lengths of the three slices that are lent: function slice, work slice, output slice.
+abbrev pub answerTo : List ℕ → ℕ → List ℕ → List ℕ → List ℕ → Answer
+answerTo text first func work out = answer text first (length func) (length work) (length out)
+
 -- 'When there is no list': the number of each refusal
 abbrev pub causeNumber : Cause → ℕ
 causeNumber (Text r) = refusalNumber r
 causeNumber Ids = 9
 causeNumber Values = 10
-causeNumber Output = 11
+causeNumber (Output n) = 11
 
 -- An accepted call gives the word count and the next free id; any other, the refusal's number.
 pub data Outcome : Type 0 where
@@ -42,6 +48,30 @@ told (Refused c) = refuses (causeNumber c)
 abbrev pub outcome : Answer → Outcome
 outcome (listed ws next) = gives (length ws) next
 outcome (refused n) = refuses n
+
+-- ---- how long the output slice has to be
+
+-- The list of a parsed function has this many words; a text that is denied has no list.
+abbrev pub wantedBy : answer.Parsed → ℕ → ℕ
+wantedBy (parsed F) first = length (words (listOf F first))
+wantedBy (denied n) first = 0
+
+-- The list of a text has this many words, by the first id and the lengths of the function slice and the work slice.
+unfoldable pub wanted : List ℕ → ℕ → ℕ → ℕ → ℕ
+unfolding parse
+wanted text first func work = wantedBy (parse text func work) first
+
+-- the same of the slices that are lent
+abbrev pub wantedTo : List ℕ → ℕ → List ℕ → List ℕ → ℕ
+wantedTo text first func work = wanted text first (length func) (length work)
+
+-- Refusal 11 tells that k words are wanted; no other answer says anything of them.
+abbrev pub Wants : ℕ → Lifted → Type 0
+Wants k (Whole n next) = Unit {0}
+Wants k (Refused (Text r)) = Unit {0}
+Wants k (Refused Ids) = Unit {0}
+Wants k (Refused Values) = Unit {0}
+Wants k (Refused (Output n)) = n ≡ k
 
 -- what stands in the output slice and what is told, of an answer
 pub record Gives (a : Answer) (r : Lifted) (out exit : List ℕ) : Type 0 where
@@ -104,3 +134,7 @@ module _ (text : List ℕ) (first func work out : ℕ) where
   pub tabled : (F : Func) → parsed F ≡ parse text func work → lifted (parsed F) first out ≡ answer text first func work out
   unfolding answer
   tabled F e = ap (λ (p : answer.Parsed). lifted p first out) e
+
+  pub wanted-tabled : (F : Func) → parsed F ≡ parse text func work → length (words (listOf F first)) ≡ wanted text first func work
+  unfolding wanted
+  wanted-tabled F e = ap (λ (p : answer.Parsed). wantedBy p first) e

@@ -1,3 +1,4 @@
+-- The three tests of the first id are refusal 9; past them the blocks are laid, numbered and linked, which is what the list is written from.
 use mathlib.Core.Path.{_≡_, refl, sym, ap, _∙_}
 use mathlib.Core.Bool.{Bool, true, false}
 use mathlib.Core.List.{List}
@@ -32,14 +33,14 @@ returns c =
     let a = c .before .before .before .before .before .args in
     let p = c .before .before .before .before .before .pre in
     let F = funcOf (a .func .now) in
-    (gives-ids F (a .first) (length (a .out .now)) (a .out .now) (ids-low F (a .first) (sym (c .before .first-fits .ensures) ∙ not-true _ (c .if1 .taken))), refl)
+    (gives-ids F (a .first) (length (a .out .now)) (a .out .now) (ids-low F (a .first) (sym (c .before .first-fits .ensures) ∙ not-true _ (c .if1 .taken))), (refl, tt))
 
 returns-2 : tie.Need-returns-2
 returns-2 c =
     let a = c .before .before .before .before .before .before .args in
     let p = c .before .before .before .before .before .before .pre in
     let F = funcOf (a .func .now) in
-    (gives-ids F (a .first) (length (a .out .now)) (a .out .now) (ids-high F (a .first) (c .if2 .taken)), refl)
+    (gives-ids F (a .first) (length (a .out .now)) (a .out .now) (ids-high F (a .first) (c .if2 .taken)), (refl, tt))
 
 lay-requires : tie.Need-lay-requires
 lay-requires c κs = search needs
@@ -59,7 +60,7 @@ returns-3 c =
     let p = c .before .before .before .before .before .before .before .before .before .before .before .before .before .before .before .pre in
     let F = funcOf (a .func .now) in (
       gives-ids F (a .first) (length (a .out .now)) (a .out .now) (ids-over F (a .first) (omega (arith, c .before .before .before .number .ensures .0))),
-      c .before .before .before .number .ensures .1 .1 .1 ∙ c .before .before .before .before .before .before .before .lay .ensures .1 .1 .1,
+      (c .before .before .before .number .ensures .1 .1 .1 ∙ c .before .before .before .before .before .before .before .lay .ensures .1 .1 .1, tt),
     )
 
 link-requires : tie.Need-link-requires
@@ -102,8 +103,11 @@ returns-4 c =
     let p = c .before .before .before .before .before .before .before .before .before .before .before .before .before .before .before .before .before .before .before .before .before .before .before .before .pre in
     let F = funcOf (a .func .now) in
     let held = ids-held F (a .first) (sym (c .before .before .before .before .before .before .before .before .before .before .before .before .before .before .before .before .before .before .before .before .first-fits .ensures) ∙ not-false _ (c .before .before .before .before .before .before .before .before .before .before .before .before .before .before .before .before .before .before .before .if1 .left)) (omega arith) (omega (arith, c .before .before .before .before .before .before .before .before .before .before .before .before .number .ensures .0)) in (
-      gives-same (c .before .before .written .ensures) (sym (past-ids F (a .first) (length (a .out .now)) held)),
-      c .before .before .before .before .before .before .before .link .ensures .1 .1 .1 .1 ∙ c .before .before .before .before .before .before .before .before .before .before .before .before .number .ensures .1 .1 .1 ∙ c .before .before .before .before .before .before .before .before .before .before .before .before .before .before .before .before .lay .ensures .1 .1 .1,
+      gives-same (c .before .before .written .ensures .0) (sym (past-ids F (a .first) (length (a .out .now)) held)),
+      (
+        c .before .before .before .before .before .before .before .link .ensures .1 .1 .1 .1 ∙ c .before .before .before .before .before .before .before .before .before .before .before .before .number .ensures .1 .1 .1 ∙ c .before .before .before .before .before .before .before .before .before .before .before .before .before .before .before .before .lay .ensures .1 .1 .1,
+        c .before .before .written .ensures .1,
+      ),
     )
 
 pub emit-spec : {M : Type 1} → statement M

@@ -1,3 +1,4 @@
+-- What is told of the tables holds before they are cleared, and clearing both slices leaves zeros.
 use mathlib.Core.Path.{_≡_, refl, sym, ap, _∙_}
 use mathlib.Core.Bool.{Bool, true, false}
 use mathlib.Core.List.{List}
@@ -34,7 +35,7 @@ same-length-3 c = search needs
 returns : tie.Need-returns
 returns c =
     let e = c .before .before .before .before .before .before .before .before .before .before .before .before .emit .ensures in
-    (e .0, (c .before .before .before .before .before .before .clear .ensures, c .before .before .clear2 .ensures ∙ ap (λ (n : ℕ). replicate n 0) (e .1)))
+    (e .0, (c .before .before .before .before .before .before .clear .ensures, (c .before .before .clear2 .ensures ∙ ap (λ (n : ℕ). replicate n 0) (e .1 .0), e .1 .1)))
 
 pub from-tables-spec : {M : Type 1} → statement M
 from-tables-spec =

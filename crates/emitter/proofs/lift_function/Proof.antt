@@ -1,4 +1,5 @@
-use mathlib.Core.Path.{_≡_, refl, sym, ap, _∙_}
+-- A text that the reader denies is refused with its number; of any other the function stands in its slice, and the answer is the one of those tables.
+use mathlib.Core.Path.{_≡_, refl, sym, ap, subst, _∙_}
 use mathlib.Core.Bool.{Bool, true, false}
 use mathlib.Core.List.{List}
 use Prim.Native.Nat.{ℕ, suc, _+_, _*_, _≤_, _<_}
@@ -12,7 +13,8 @@ use Rattle.func.specs.Decode.{funcOf}
 use Rattle.checks.specs.declared.Parsed.{Parsed}
 use Rattle.reader.specs.Parse.{answerOf, funcAfter, workAfter}
 use Rattle.reader.specs.Same.{accepted, cleared}
-use Rattle.emitter.specs.Lift.{early, outcome, scratch-tables, tabled}
+use Rattle.put.specs.Put.{sat}
+use Rattle.emitter.specs.Lift.{Wants, early, outcome, scratch-tables, tabled, wanted-tabled}
 use Rattle.emitter.proofs.lift_function.Statement.{statement}
 use Rattle.emitter.proofs.lift_function.Tie as tie
 use Rattle.emitter.proofs.lift_function.Reads as reads
@@ -61,7 +63,7 @@ returns c =
       ap outcome k,
       (
         q .1 .0 ∙ ap (λ (x : answer.Parsed). funcAfter x f) (sym e) ∙ ap (λ (x : Answer). scratchAfter x f) k,
-        (q .1 .1 ∙ ap (λ (x : answer.Parsed). workAfter x w) (sym e) ∙ ap (λ (x : Answer). scratchAfter x w) k, ap (λ (x : Answer). outAfter x o) k),
+        (q .1 .1 ∙ ap (λ (x : answer.Parsed). workAfter x w) (sym e) ∙ ap (λ (x : Answer). scratchAfter x w) k, (ap (λ (x : Answer). outAfter x o) k, tt)),
       ),
     )
 
@@ -93,8 +95,11 @@ returns-2 c =
       (
         g .1 .0 ∙ ap (λ (n : ℕ). replicate n 0) lf ∙ sym (scratch-tables F (a .first) (length o) f) ∙ ap (λ (x : Answer). scratchAfter x f) k,
         (
-          g .1 .1 ∙ ap (λ (n : ℕ). replicate n 0) lw ∙ sym (scratch-tables F (a .first) (length o) w) ∙ ap (λ (x : Answer). scratchAfter x w) k,
-          g .0 .words ∙ ap (λ (x : Answer). outAfter x o) k,
+          g .1 .1 .0 ∙ ap (λ (n : ℕ). replicate n 0) lw ∙ sym (scratch-tables F (a .first) (length o) w) ∙ ap (λ (x : Answer). scratchAfter x w) k,
+          (
+            g .0 .words ∙ ap (λ (x : Answer). outAfter x o) k,
+            subst (λ (n : ℕ). Wants (sat n) (c .before .before .before .before .before .before .from-tables .result)) (wanted-tabled t (a .first) (length f) (length w) (length o) F e) (g .1 .1 .1),
+          ),
         ),
       ),
     )

@@ -1,3 +1,4 @@
+-- The list is counted by the same emitter that writes it: so the flag decides refusal 10, the place refusal 11 and what it tells, and the second pass writes the words.
 use mathlib.Core.Path.{_≡_, refl, sym, ap, _∙_}
 use mathlib.Core.Bool.{Bool, true, false}
 use mathlib.Core.List.{List}
@@ -10,7 +11,7 @@ use borrow.Author.Tests.{le-leb, leb-true, lt-leb}
 use Rattle.lifting.specs.Instructions.{listOf}
 use Rattle.lifting.specs.Words.{words}
 use Rattle.func.specs.Decode.{funcOf}
-use Rattle.emitter.specs.Listed.{count-is, list-stands, room-is}
+use Rattle.emitter.specs.Listed.{count-is, counted, list-stands, room-is}
 use Rattle.emitter.proofs.Giving.{gives-list, gives-room, gives-values, missing-any, missing-none}
 use Rattle.emitter.proofs.written.Statement.{statement}
 use Rattle.emitter.proofs.written.Tie as tie
@@ -33,7 +34,7 @@ returns c =
     let L = listOf F (a .first) in
     let ok = p .0 .ready .stands .passes in
     let g : n * 4 < 9223372036854775808 = c .before .before .before .before .before .before .before .good .1 .1 .0 .1 in
-    gives-values F (a .first) n (a .out .now) (missing-any F (a .first) ok (p .1 .0) (c .before .before .put-list .ensures) (c .if1 .taken))
+    (gives-values F (a .first) n (a .out .now) (missing-any F (a .first) ok (p .1 .0) (c .before .before .put-list .ensures) (c .if1 .taken)), tt)
 
 returns-2 : tie.Need-returns-2
 returns-2 c =
@@ -45,7 +46,7 @@ returns-2 c =
     let ok = p .0 .ready .stands .passes in
     let g : n * 4 < 9223372036854775808 = c .before .before .before .before .before .before .before .before .before .good .1 .1 .0 .1 in
     let e = c .before .before .before .before .put-list .ensures in
-    gives-room F (a .first) n (a .out .now) (missing-none F (a .first) ok (p .1 .0) e (c .before .before .if1 .left)) (sym (room-is L e n (omega arith)) ∙ lt-leb _ n (c .if2 .taken))
+    (gives-room F (a .first) n (a .out .now) (missing-none F (a .first) ok (p .1 .0) e (c .before .before .if1 .left)) (sym (room-is L e n (omega arith)) ∙ lt-leb _ n (c .if2 .taken)) _, counted L e)
 
 put-list-requires-2 : tie.Need-put-list-requires-2
 put-list-requires-2 c κs = search needs
@@ -66,7 +67,7 @@ returns-3 c =
     let l : c .before .before .before .before .before .before .before .before .put-list .result .at ≤ n = omega arith in
     let f = sym (room-is L e n (omega arith)) ∙ le-leb _ n l in
     let w : length (words L) ≤ n = leb-true (length (words L)) n f in
-    gives-list F (a .first) n (a .out .now) (missing-none F (a .first) ok (p .1 .0) e (c .before .before .before .before .before .before .if1 .left)) f (count-is L e (omega arith)) (p .1 .1) (list-stands L (c .before .before .put-list2 .ensures) w)
+    (gives-list F (a .first) n (a .out .now) (missing-none F (a .first) ok (p .1 .0) e (c .before .before .before .before .before .before .if1 .left)) f (count-is L e (omega arith)) (p .1 .1) (list-stands L (c .before .before .put-list2 .ensures) w), tt)
 
 pub written-spec : {M : Type 1} → statement M
 written-spec =
