@@ -2,16 +2,31 @@
 // slices it lends for writing do not overlap.
 use checks::Parsed;
 use checks::number;
+use emitter::Cause;
 use emitter::Lifted;
 use emitter::cause_number;
 use emitter::lift_function;
+use func::pools::clear;
 ghost use mathlib.Core.Path.{_≡_};
-ghost use lib.ListN.{length};
-ghost use Rattle.lifting.specs.Answer.{answer, outAfter, parse, scratchAfter};
-ghost use Rattle.reader.specs.Parse.{funcAfter, workAfter};
-ghost use Rattle.sighvona.specs.Numbers.{nextOr, readOf, refusalOf, wordsOr};
+ghost use Rattle.lifting.specs.Answer.{outAfter, scratchAfter};
+ghost use Rattle.put.specs.Put.{sat};
+ghost use Rattle.emitter.specs.Lift.{answerTo, wantedTo};
+ghost use Rattle.sighvona.specs.Numbers.{causeWords, nextOr, readLeaves, readOf, readTo, refusalOf, version, wordsOr};
 
-// Lifts a text: 0, with the list in `out`, its count of words and the next free id; or the number of the refusal.
+// What `words` holds after a refusal: 11 tells how many words are wanted.
+fn words_told(c: Cause, old: usize) -> usize
+    ensures { λ n. ⌜ n ≡ causeWords c old ⌝ }
+{
+    match c {
+        Cause::Text(_) => old,
+        Cause::Ids => old,
+        Cause::Values => old,
+        Cause::Output(n) => n,
+    }
+}
+
+// Lifts a text: 0, with the list in `out`, its count of words and the next free id; or the number of the refusal. Refusal 11 gives in `words` how many
+// words the list has, as a count that stays at 2^64 - 1 (`sat`) where a list had more. After any other refusal `words` and `next` keep what they held.
 #[no_mangle]
 pub extern "C" fn sighvona_lift(
     text: &[u8],
@@ -22,12 +37,12 @@ pub extern "C" fn sighvona_lift(
     words: &mut usize,
     next: &mut u32,
 ) -> u32
-    ensures { λ r. ⌜ r ≡ refusalOf (answer (now (text .entry)) first (length (now (func .entry))) (length (now (work .entry))) (length (now (out .entry)))) ⌝ }
-    ensures { λ _. ⌜ now (words .exit) ≡ wordsOr (answer (now (text .entry)) first (length (now (func .entry))) (length (now (work .entry))) (length (now (out .entry)))) (now (words .entry)) ⌝ }
-    ensures { λ _. ⌜ now (next .exit) ≡ nextOr (answer (now (text .entry)) first (length (now (func .entry))) (length (now (work .entry))) (length (now (out .entry)))) (now (next .entry)) ⌝ }
-    ensures { λ _. ⌜ now (func .exit) ≡ scratchAfter (answer (now (text .entry)) first (length (now (func .entry))) (length (now (work .entry))) (length (now (out .entry)))) (now (func .entry)) ⌝ }
-    ensures { λ _. ⌜ now (work .exit) ≡ scratchAfter (answer (now (text .entry)) first (length (now (func .entry))) (length (now (work .entry))) (length (now (out .entry)))) (now (work .entry)) ⌝ }
-    ensures { λ _. ⌜ now (out .exit) ≡ outAfter (answer (now (text .entry)) first (length (now (func .entry))) (length (now (work .entry))) (length (now (out .entry)))) (now (out .entry)) ⌝ }
+    ensures refusal { λ r. ⌜ r ≡ refusalOf (answerTo (now (text .entry)) first (now (func .entry)) (now (work .entry)) (now (out .entry))) ⌝ }
+    ensures word_count { λ _. ⌜ now (words .exit) ≡ wordsOr (answerTo (now (text .entry)) first (now (func .entry)) (now (work .entry)) (now (out .entry))) (sat (wantedTo (now (text .entry)) first (now (func .entry)) (now (work .entry)))) (now (words .entry)) ⌝ }
+    ensures next_id { λ _. ⌜ now (next .exit) ≡ nextOr (answerTo (now (text .entry)) first (now (func .entry)) (now (work .entry)) (now (out .entry))) (now (next .entry)) ⌝ }
+    ensures func_slice { λ _. ⌜ now (func .exit) ≡ scratchAfter (answerTo (now (text .entry)) first (now (func .entry)) (now (work .entry)) (now (out .entry))) (now (func .entry)) ⌝ }
+    ensures work_slice { λ _. ⌜ now (work .exit) ≡ scratchAfter (answerTo (now (text .entry)) first (now (func .entry)) (now (work .entry)) (now (out .entry))) (now (work .entry)) ⌝ }
+    ensures out_slice { λ _. ⌜ now (out .exit) ≡ outAfter (answerTo (now (text .entry)) first (now (func .entry)) (now (work .entry)) (now (out .entry))) (now (out .entry)) ⌝ }
 {
     let r = lift_function(text, first, func, work, out);
     match r {
@@ -36,20 +51,32 @@ pub extern "C" fn sighvona_lift(
             *next = k;
             0
         }
-        Lifted::Refused(c) => cause_number(c),
+        Lifted::Refused(c) => {
+            *words = words_told(c, *words);
+            cause_number(c)
+        }
     }
 }
 
-// Reads a text and lifts nothing: 0, or the number of the refusal, 8 or 1 to 7. The tables of the text stand in `func` after 0.
+// Reads a text and lifts nothing: 0, or the number of the refusal, 8 or 1 to 7. Both slices end as zeros, except after 8, when they keep their words.
 #[no_mangle]
 pub extern "C" fn sighvona_read(text: &[u8], func: &mut [u32], work: &mut [u32]) -> u32
-    ensures { λ r. ⌜ r ≡ readOf (parse (now (text .entry)) (length (now (func .entry))) (length (now (work .entry)))) ⌝ }
-    ensures { λ _. ⌜ now (func .exit) ≡ funcAfter (parse (now (text .entry)) (length (now (func .entry))) (length (now (work .entry)))) (now (func .entry)) ⌝ }
-    ensures { λ _. ⌜ now (work .exit) ≡ workAfter (parse (now (text .entry)) (length (now (func .entry))) (length (now (work .entry)))) (now (work .entry)) ⌝ }
+    ensures refusal { λ r. ⌜ r ≡ readOf (readTo (now (text .entry)) (now (func .entry)) (now (work .entry))) ⌝ }
+    ensures func_slice { λ _. ⌜ now (func .exit) ≡ readLeaves (readTo (now (text .entry)) (now (func .entry)) (now (work .entry))) (now (func .entry)) ⌝ }
+    ensures work_slice { λ _. ⌜ now (work .exit) ≡ readLeaves (readTo (now (text .entry)) (now (func .entry)) (now (work .entry))) (now (work .entry)) ⌝ }
 {
     let r = reader::parse(text, func, work);
-    match r {
-        Parsed::Function => 0,
-        Parsed::Refused(x) => number(x),
-    }
+    let Parsed::Refused(x) = r else {
+        clear(func);
+        return 0;
+    };
+    number(x)
+}
+
+// The library's version, 0.2.0: major * 65,536 + minor * 256 + patch.
+#[no_mangle]
+pub extern "C" fn sighvona_version() -> u32
+    ensures version { λ r. ⌜ r ≡ version ⌝ }
+{
+    512
 }

@@ -1,8 +1,9 @@
-use mathlib.Core.Path.{sym, ap, _∙_}
-use lib.ListN.{length}
+-- The entry's answer crosses as numbers: what it tells of a list or of a refusal, and of the words that refusal 11 wants, decides all of them.
+use mathlib.Core.Path.{sym, ap, subst, _∙_}
 use borrow.Author.Needs.{needs}
-use Rattle.lifting.specs.Answer.{answer}
-use Rattle.emitter.specs.Lift.{told}
+use Rattle.put.specs.Put.{sat}
+use Rattle.emitter.specs.declared.Lifted.{Lifted}
+use Rattle.emitter.specs.Lift.{Wants, answerTo, told, wantedTo}
 use Rattle.sighvona.specs.Numbers.{numbers-list, numbers-refusal}
 use Rattle.sighvona.proofs.sighvona_lift.Statement.{statement}
 use Rattle.sighvona.proofs.sighvona_lift.Tie as tie
@@ -10,6 +11,7 @@ use Rattle.sighvona.proofs.sighvona_lift.Reads as reads
 use Rattle.sighvona.proofs.sighvona_lift.Lts as lts
 use Rattle.emitter.proofs.cause_number.Reads as cause-number-reads
 use Rattle.emitter.proofs.lift_function.Reads as lift-function-reads
+use Rattle.sighvona.proofs.words_told.Reads as words-told-reads
 
 lift-function-requires : tie.Need-lift-function-requires
 lift-function-requires c κs = search needs
@@ -19,6 +21,9 @@ enum-known-r c = search needs
 
 enum-known-r-2 : tie.Need-enum-known-r-2
 enum-known-r-2 c = search needs
+
+words-told-requires : tie.Need-words-told-requires
+words-told-requires c κs = search needs
 
 cause-number-requires : tie.Need-cause-number-requires
 cause-number-requires c κs = search needs
@@ -36,8 +41,10 @@ returns : tie.Need-returns
 returns c =
     let a = c .before .before .before .before .before .before .before .before .before .before .before .before .before .before .before .before .before .args in
     let e = c .before .before .before .before .before .before .before .before .before .lift-function .ensures in
-    let n = numbers-list (answer (a .text .now) (a .first) (length (a .func .now)) (length (a .work .now)) (length (a .out .now))) _ _ (a .words .now) (a .next .now) (ap told (sym (c .before .r .given .1)) ∙ e .0) in
-    (n .refusal, (n .count, (n .free, (e .1 .0, (e .1 .1 .0, e .1 .1 .1)))))
+    let x = answerTo (a .text .now) (a .first) (a .func .now) (a .work .now) (a .out .now) in
+    let k = sat (wantedTo (a .text .now) (a .first) (a .func .now) (a .work .now)) in
+    let n = numbers-list x _ _ k (a .words .now) (a .next .now) (ap told (sym (c .before .r .given .1)) ∙ e .0) in
+    (n .refusal, (n .count, (n .free, (e .1 .0, (e .1 .1 .0, e .1 .1 .1 .0)))))
 
 same-length-4 : tie.Need-same-length-4
 same-length-4 c = search needs
@@ -50,10 +57,13 @@ same-length-6 c = search needs
 
 returns-2 : tie.Need-returns-2
 returns-2 c =
-    let a = c .before .before .before .before .before .before .before .before .before .before .before .before .before .before .before .before .before .before .args in
-    let e = c .before .before .before .before .before .before .before .before .before .before .lift-function .ensures in
-    let n = numbers-refusal (answer (a .text .now) (a .first) (length (a .func .now)) (length (a .work .now)) (length (a .out .now))) _ (a .words .now) (a .next .now) (ap told (sym (c .before .before .r2 .given .1)) ∙ e .0) in
-    (c .cause-number .ensures ∙ n .refusal, (n .count, (n .free, (e .1 .0, (e .1 .1 .0, e .1 .1 .1)))))
+    let a = c .before .before .before .before .before .before .before .before .before .before .before .before .before .before .before .before .before .before .before .before .args in
+    let e = c .before .before .before .before .before .before .before .before .before .before .before .before .lift-function .ensures in
+    let x = answerTo (a .text .now) (a .first) (a .func .now) (a .work .now) (a .out .now) in
+    let k = sat (wantedTo (a .text .now) (a .first) (a .func .now) (a .work .now)) in
+    let g = c .before .before .before .before .r2 .given in
+    let n = numbers-refusal x (g .0 .0) k (a .words .now) (a .next .now) (ap told (sym (g .1)) ∙ e .0) (subst (λ (r : Lifted). Wants k r) (g .1) (e .1 .1 .1 .1)) in
+    (c .cause-number .ensures ∙ n .refusal, (c .before .words-told .ensures ∙ n .count, (n .free, (e .1 .0, (e .1 .1 .0, e .1 .1 .1 .0)))))
 
 pub sighvona-lift-spec : {M : Type 1} → statement M
 sighvona-lift-spec =
@@ -62,6 +72,7 @@ sighvona-lift-spec =
     lift-function-requires
     enum-known-r
     enum-known-r-2
+    words-told-requires
     cause-number-requires
     same-length
     same-length-2

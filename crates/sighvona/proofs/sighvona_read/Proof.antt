@@ -1,27 +1,32 @@
-use mathlib.Core.Path.{sym, ap, _∙_}
-use lib.ListN.{length}
+-- The reader's answer crosses as a number; it leaves the tables of a text in the function slice after 0 alone, and there they are cleared.
+use mathlib.Core.Path.{_≡_, sym, ap, _∙_}
+use Prim.Native.Nat.{ℕ}
+use native.Mathlib.Omega.{arith}
+use lib.ListN.{length, replicate}
 use borrow.Author.Needs.{needs}
+use Rattle.lifting.specs.Answer as answer
 use Rattle.checks.specs.declared.Parsed.{Parsed}
-use Rattle.reader.specs.Parse.{answerOf}
-use Rattle.sighvona.specs.Numbers.{readOf}
+use Rattle.reader.specs.Parse.{answerOf, funcAfter, workAfter}
+use Rattle.sighvona.specs.Numbers.{readLeaves, readOf}
 use Rattle.sighvona.proofs.sighvona_read.Statement.{statement}
 use Rattle.sighvona.proofs.sighvona_read.Tie as tie
 use Rattle.sighvona.proofs.sighvona_read.Reads as reads
 use Rattle.sighvona.proofs.sighvona_read.Lts as lts
 use Rattle.checks.proofs.number.Reads as number-reads
+use Rattle.func.proofs.clear.Reads as clear-reads
 use Rattle.reader.proofs.parse.Reads as parse-reads
 
 parse-requires : tie.Need-parse-requires
 parse-requires c κs = search needs
 
-enum-told : tie.Need-enum-told
-enum-told c = search needs
-
 enum-known-r : tie.Need-enum-known-r
 enum-known-r c = search needs
 
-number-requires : tie.Need-number-requires
-number-requires c κs = search needs
+enum-told : tie.Need-enum-told
+enum-told c = search needs
+
+clear-requires : tie.Need-clear-requires
+clear-requires c κs = search needs
 
 same-length : tie.Need-same-length
 same-length c = search needs
@@ -31,8 +36,21 @@ same-length-2 c = search needs
 
 returns : tie.Need-returns
 returns c =
-    let e = c .before .before .before .before .before .before .parse .ensures in
-    (ap (λ (x : Parsed). readOf (answerOf x (c .before .before .before .before .before .before .parse .last .1 .0))) (sym (c .enum-told .given .1)) ∙ ap readOf (e .0), e .1)
+    let f = c .before .before .before .before .before .before .before .before .before .before .before .before .before .before .before .before .args .func .now in
+    let w = c .before .before .before .before .before .before .before .before .before .before .before .before .before .before .before .before .args .work .now in
+    let q = c .before .before .before .before .before .before .before .before .before .before .parse .ensures in
+    let v = c .before .before .before .before .before .before .before .before .before .before .parse .last .1 .0 in
+    let e = ap (λ (x : Parsed). answerOf x v) (sym (c .before .before .before .before .enum-told .given .1)) ∙ q .0 in
+    let l : length v ≡ length f = omega arith in (
+      ap readOf e,
+      (
+        c .before .before .clear .ensures ∙ ap (λ (n : ℕ). replicate n 0) l ∙ ap (λ (x : answer.Parsed). readLeaves x f) e,
+        q .1 .1 ∙ ap (λ (x : answer.Parsed). workAfter x w) (sym e) ∙ ap (λ (x : answer.Parsed). readLeaves x w) e,
+      ),
+    )
+
+number-requires : tie.Need-number-requires
+number-requires c κs = search needs
 
 same-length-3 : tie.Need-same-length-3
 same-length-3 c = search needs
@@ -42,20 +60,30 @@ same-length-4 c = search needs
 
 returns-2 : tie.Need-returns-2
 returns-2 c =
-    let e = c .before .before .before .before .before .before .before .before .parse .ensures in
-    (c .number .ensures ∙ ap (λ (x : Parsed). readOf (answerOf x (c .before .before .before .before .before .before .before .before .parse .last .1 .0))) (sym (c .before .before .r .given .1)) ∙ ap readOf (e .0), e .1)
+    let f = c .before .before .before .before .before .before .before .before .before .before .before .before .before .before .args .func .now in
+    let w = c .before .before .before .before .before .before .before .before .before .before .before .before .before .before .args .work .now in
+    let q = c .before .before .before .before .before .before .before .before .parse .ensures in
+    let v = c .before .before .before .before .before .before .before .before .parse .last .1 .0 in
+    let e = ap (λ (x : Parsed). answerOf x v) (sym (c .before .before .r .given .1)) ∙ q .0 in (
+      c .number .ensures ∙ ap readOf e,
+      (
+        q .1 .0 ∙ ap (λ (x : answer.Parsed). funcAfter x f) (sym e) ∙ ap (λ (x : answer.Parsed). readLeaves x f) e,
+        q .1 .1 ∙ ap (λ (x : answer.Parsed). workAfter x w) (sym e) ∙ ap (λ (x : answer.Parsed). readLeaves x w) e,
+      ),
+    )
 
 pub sighvona-read-spec : {M : Type 1} → statement M
 sighvona-read-spec =
     tie.close
     (tie.spec
     parse-requires
-    enum-told
     enum-known-r
-    number-requires
+    enum-told
+    clear-requires
     same-length
     same-length-2
     returns
+    number-requires
     same-length-3
     same-length-4
     returns-2)
