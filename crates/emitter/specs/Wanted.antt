@@ -1,7 +1,6 @@
 -- Refusal 11 can be mended by the caller: an output slice of as many words as are wanted holds the list. Assumes nothing.
---     denied-low       a text is denied by 8 and 1 to 7 alone
 --     wanted-enough    after refusal 11, the answer with enough room is the list, which has the wanted words
-use mathlib.Core.Path.{_≡_, refl, sym, ap, _∙_}
+use mathlib.Core.Path.{_≡_, refl, ap}
 use mathlib.Core.Bool.{Bool, true, false, _&&_}
 use mathlib.Core.List.{List}
 use mathlib.Core.Option.{Option, none, some}
@@ -25,7 +24,7 @@ use Rattle.lifting.specs.Words.{words}
 use Rattle.lifting.specs.Answer.{Answer, Parsed, answer, checked, denied, formed, idsFit, lifted, listed, parse, parsed, refused, valuesSet, written}
 use Rattle.emitter.specs.Lift.{wanted, wantedBy}
 
--- a number by which a text is denied is at most 8
+-- a text is denied by 8 and 1 to 7 alone, so 11 is no denial
 abbrev Low : Parsed → Type 0
 Low (parsed F) = Unit {0}
 Low (denied n) = n ≤ 8
@@ -48,7 +47,7 @@ unfolding formed
 formed-low none = omega arith
 formed-low (some F) = checked-low F
 
-pub denied-low : (text : List ℕ) (func work : ℕ) → Low (parse text func work)
+denied-low : (text : List ℕ) (func work : ℕ) → Low (parse text func work)
 unfolding parse
 denied-low text func work = go (leb scratchWords func && leb scratchWords work) (leb (length text) maxBytes)
   where
