@@ -1,21 +1,33 @@
--- Demand 3 about the words that stand in the output slice after an accepted call: running the regions of the text and running the blocks of that list
--- are alike in every world. The hypotheses are what `lift_function` promises, that it told a word count, and that the text has a body. Assumes nothing.
+-- Demands 2 and 3 about the words that stand in the output slice after an accepted call: running the regions of the text and running the blocks of
+-- that list are alike in every world, and neither run is ever stuck; the list gives each new id once; each phi has one pair for each block whose way
+-- out names its block. The hypotheses are what `lift_function` promises, that it told a word count, and for the runs that the text has a body.
+-- Assumes nothing.
 use mathlib.Core.Path.{_≡_, refl, sym, ap, subst, _∙_}
 use mathlib.Core.Bool.{true}
 use mathlib.Core.List.{List, _++_}
 use mathlib.Core.Option.{some}
-use Prim.Native.Nat.{ℕ, _≤_}
+use Prim.Native.Nat.{ℕ, _≤_, _<_}
 use native.Mathlib.Omega.{arith}
 use lib.ListN.{drop, length, length-append, take}
 use lib.Seq.{take-append-seam}
 use Rattle.lifting.specs.Ast.{Func}
 use Rattle.lifting.specs.Grammar.{read}
 use Rattle.lifting.specs.Parts.{hasBody}
+use Rattle.lifting.specs.Walk.{walkOf}
+use Rattle.lifting.specs.Absorb.{kept}
+use Rattle.lifting.specs.Instructions.{Instruction}
 use Rattle.lifting.specs.Words.{listFrom}
 use Rattle.lifting.specs.Answer.{Answer, answer, listed, outAfter, refused}
-use Rattle.lifting.specs.World.{World}
+use Rattle.lifting.specs.Machine.{Ends}
+use Rattle.lifting.specs.World.{Executed, World, stuck}
+use Rattle.lifting.specs.RegionRun.{regionLog, regionStart, regionStep}
+use Rattle.lifting.specs.BlockRun.{blockLog, blockStart, blockStep, parts, phisOf}
 use Rattle.lifting.specs.Runs.{AlikeRuns, TrueConstants}
-use Rattle.runs.specs.Demand3.{demand-3}
+use Rattle.runs.specs.Members.{In}
+use Rattle.runs.specs.ListIds.{RunOn, givenIds}
+use Rattle.runs.specs.ListPhis.{PhiPairs, phiIds}
+use Rattle.runs.specs.Demand3.{demand-3, never-stuck}
+use Rattle.flat.specs.Demand2.{list-ids, list-phis}
 use Rattle.emitter.specs.declared.Lifted.the-variants.{Whole}
 use Rattle.emitter.specs.Lift.{gives, outcome, refuses, told}
 
@@ -49,3 +61,30 @@ module _ (text func work out exit : List ℕ) (first n next : ℕ) where
         let l = written-list in
         subst (λ (ws : List ℕ). AlikeRuns F (listFrom ws) W) (sym (l .2))
         (demand-3 text first (length func) (length work) (length out) (l .0) next (l .1) F is body W true41)
+
+    -- the ids that the list gives: each from the first to one below the next free one, none twice
+    pub lifted-ids : RunOn first next (givenIds (listFrom (take n exit)))
+    lifted-ids =
+        let l = written-list in
+        subst (λ (ws : List ℕ). RunOn first next (givenIds (listFrom ws))) (sym (l .2))
+        (list-ids text first (length func) (length work) (length out) (l .0) next (l .1))
+
+    -- phi j of block k: one pair for each block of the list whose way out names k, and no other, with that edge's value
+    pub lifted-phis : (F : Func) → read text ≡ some F → (k : ℕ) (body : List Instruction) → In (k, body) (parts (listFrom (take n exit)) .blocks)
+        → (j : ℕ) → j < length (phisOf body) → PhiPairs F first (walkOf F) (kept (walkOf F)) (parts (listFrom (take n exit)) .blocks) k j (phiIds body j)
+    lifted-phis F is =
+        let l = written-list in
+        subst (λ (ws : List ℕ). (k : ℕ) (body : List Instruction) → In (k, body) (parts (listFrom ws) .blocks)
+        → (j : ℕ) → j < length (phisOf body) → PhiPairs F first (walkOf F) (kept (walkOf F)) (parts (listFrom ws) .blocks) k j (phiIds body j)) (sym (l .2))
+        (list-phis text first (length func) (length work) (length out) (l .0) next (l .1) F is)
+
+    -- neither run is ever stuck
+    pub lifted-goes-on : (F : Func) → read text ≡ some F → hasBody (F .regions) ≡ true → {Val : Type 0} (W : World Val) (l : List (Executed Val))
+        → (Ends (regionStep F W) (regionLog F W) (regionStart F W) stuck l → ⊥)
+        × (Ends (blockStep W (parts (listFrom (take n exit)) .blocks)) (blockLog W (parts (listFrom (take n exit)) .blocks))
+        (blockStart W (F .consts) (listFrom (take n exit))) stuck l → ⊥)
+    lifted-goes-on F is body W l =
+        let w = written-list in
+        subst (λ (ws : List ℕ). (Ends (regionStep F W) (regionLog F W) (regionStart F W) stuck l → ⊥)
+        × (Ends (blockStep W (parts (listFrom ws) .blocks)) (blockLog W (parts (listFrom ws) .blocks)) (blockStart W (F .consts) (listFrom ws)) stuck l → ⊥)) (sym (w .2))
+        (never-stuck text first (length func) (length work) (length out) (w .0) next (w .1) F is body W l)

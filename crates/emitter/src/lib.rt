@@ -23,7 +23,6 @@ ghost use Rattle.checks.specs.Same.{Stands};
 ghost use Rattle.blocks.specs.Laid.{Laid};
 ghost use Rattle.edges.specs.Links.{Unlinked};
 ghost use Rattle.ids.specs.Ids.{Blank, nextIn};
-ghost use Rattle.put.specs.Put.{sat};
 ghost use Rattle.emitter.specs.Lift.{Gives, Wants, answerTo, causeNumber, emitted, outcome, told, wantedTo};
 ghost use Rattle.emitter.specs.Over.{Over};
 ghost use mathlib.Core.Bool.{true};
@@ -78,7 +77,7 @@ fn written(func: &[u32], work: &[u32], out: &mut [u32], m: usize, first: u32, ne
     requires { ⌜ idsFit (funcOf (now func)) first ≡ true ⌝ }
     requires { ⌜ next ≡ nextIn (funcOf (now func)) first ⌝ }
     ensures { λ r. ⌜ Gives (emitted (funcOf (now (func .entry))) first (length (now (out .entry)))) r (now (out .entry)) (now (out .exit)) ⌝ }
-    ensures wanted { λ r. ⌜ Wants (sat (length (words (listOf (funcOf (now (func .entry))) first)))) r ⌝ }
+    ensures wanted { λ r. ⌜ Wants (length (words (listOf (funcOf (now (func .entry))) first))) r ⌝ }
 {
     let start = Cursor { at: 0, bad: false };
     let mut none = [0u32; 1];
@@ -99,7 +98,7 @@ fn emit(func: &[u32], work: &mut [u32], out: &mut [u32], first: u32) -> Lifted
     requires { ⌜ (scratchWords ≤ length (now work)) × (now work ≡ replicate (length (now work)) 0) ⌝ }
     ensures { λ r. ⌜ Gives (lifted (parsed (funcOf (now (func .entry)))) first (length (now (out .entry)))) r (now (out .entry)) (now (out .exit)) ⌝ }
     ensures { λ _. ⌜ length (now (work .exit)) ≡ length (now (work .entry)) ⌝ }
-    ensures wanted { λ r. ⌜ Wants (sat (length (words (listOf (funcOf (now (func .entry))) first)))) r ⌝ }
+    ensures wanted { λ r. ⌜ Wants (length (words (listOf (funcOf (now (func .entry))) first))) r ⌝ }
 {
     if !first_fits(func, first) {
         return Lifted::Refused(Cause::Ids);
@@ -123,7 +122,7 @@ fn from_tables(first: u32, func: &mut [u32], work: &mut [u32], out: &mut [u32]) 
     ensures { λ r. ⌜ Gives (lifted (parsed (funcOf (now (func .entry)))) first (length (now (out .entry)))) r (now (out .entry)) (now (out .exit)) ⌝ }
     ensures { λ _. ⌜ now (func .exit) ≡ replicate (length (now (func .entry))) 0 ⌝ }
     ensures { λ _. ⌜ now (work .exit) ≡ replicate (length (now (work .entry))) 0 ⌝ }
-    ensures wanted { λ r. ⌜ Wants (sat (length (words (listOf (funcOf (now (func .entry))) first)))) r ⌝ }
+    ensures wanted { λ r. ⌜ Wants (length (words (listOf (funcOf (now (func .entry))) first))) r ⌝ }
 {
     let r = emit(func, work, out, first);
     clear(func);
@@ -133,7 +132,7 @@ fn from_tables(first: u32, func: &mut [u32], work: &mut [u32], out: &mut [u32]) 
 
 // The list of the text stands in the output slice, and its count of words and the next free id are given; or the first refusal that holds, in the
 // order 8, 1 to 7, 9, 10, 11. Output beyond the list, and all of it after a refusal, keeps its words; both scratch slices end as zeros, except after 8.
-// Refusal 11 tells how many words the list has, as a count that stays at 2^64 - 1 (`sat`) where a list had more.
+// Refusal 11 tells how many words the list has.
 pub fn lift_function(
     text: &[u8],
     first: u32,
@@ -145,7 +144,7 @@ pub fn lift_function(
     ensures func_slice { λ _. ⌜ now (func .exit) ≡ scratchAfter (answerTo (now (text .entry)) first (now (func .entry)) (now (work .entry)) (now (out .entry))) (now (func .entry)) ⌝ }
     ensures work_slice { λ _. ⌜ now (work .exit) ≡ scratchAfter (answerTo (now (text .entry)) first (now (func .entry)) (now (work .entry)) (now (out .entry))) (now (work .entry)) ⌝ }
     ensures out_slice { λ _. ⌜ now (out .exit) ≡ outAfter (answerTo (now (text .entry)) first (now (func .entry)) (now (work .entry)) (now (out .entry))) (now (out .entry)) ⌝ }
-    ensures wanted { λ r. ⌜ Wants (sat (wantedTo (now (text .entry)) first (now (func .entry)) (now (work .entry)))) r ⌝ }
+    ensures wanted { λ r. ⌜ Wants (wantedTo (now (text .entry)) first (now (func .entry)) (now (work .entry))) r ⌝ }
 {
     let p = reader::parse(text, func, work);
     match p {

@@ -9,7 +9,6 @@ use emitter::lift_function;
 use func::pools::clear;
 ghost use mathlib.Core.Path.{_≡_};
 ghost use Rattle.lifting.specs.Answer.{outAfter, scratchAfter};
-ghost use Rattle.put.specs.Put.{sat};
 ghost use Rattle.emitter.specs.Lift.{answerTo, wantedTo};
 ghost use Rattle.sighvona.specs.Numbers.{causeWords, nextOr, readLeaves, readOf, readTo, refusalOf, version, wordsOr};
 
@@ -26,7 +25,7 @@ fn words_told(c: Cause, old: usize) -> usize
 }
 
 // Lifts a text: 0, with the list in `out`, its count of words and the next free id; or the number of the refusal. Refusal 11 gives in `words` how many
-// words the list has, as a count that stays at 2^64 - 1 (`sat`) where a list had more. After any other refusal `words` and `next` keep what they held.
+// words the list has. After any other refusal `words` and `next` keep what they held.
 #[no_mangle]
 pub extern "C" fn sighvona_lift(
     text: &[u8],
@@ -38,7 +37,7 @@ pub extern "C" fn sighvona_lift(
     next: &mut u32,
 ) -> u32
     ensures refusal { λ r. ⌜ r ≡ refusalOf (answerTo (now (text .entry)) first (now (func .entry)) (now (work .entry)) (now (out .entry))) ⌝ }
-    ensures word_count { λ _. ⌜ now (words .exit) ≡ wordsOr (answerTo (now (text .entry)) first (now (func .entry)) (now (work .entry)) (now (out .entry))) (sat (wantedTo (now (text .entry)) first (now (func .entry)) (now (work .entry)))) (now (words .entry)) ⌝ }
+    ensures word_count { λ _. ⌜ now (words .exit) ≡ wordsOr (answerTo (now (text .entry)) first (now (func .entry)) (now (work .entry)) (now (out .entry))) (wantedTo (now (text .entry)) first (now (func .entry)) (now (work .entry))) (now (words .entry)) ⌝ }
     ensures next_id { λ _. ⌜ now (next .exit) ≡ nextOr (answerTo (now (text .entry)) first (now (func .entry)) (now (work .entry)) (now (out .entry))) (now (next .entry)) ⌝ }
     ensures func_slice { λ _. ⌜ now (func .exit) ≡ scratchAfter (answerTo (now (text .entry)) first (now (func .entry)) (now (work .entry)) (now (out .entry))) (now (func .entry)) ⌝ }
     ensures work_slice { λ _. ⌜ now (work .exit) ≡ scratchAfter (answerTo (now (text .entry)) first (now (func .entry)) (now (work .entry)) (now (out .entry))) (now (work .entry)) ⌝ }

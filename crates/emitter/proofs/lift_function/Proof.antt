@@ -13,7 +13,6 @@ use Rattle.func.specs.Decode.{funcOf}
 use Rattle.checks.specs.declared.Parsed.{Parsed}
 use Rattle.reader.specs.Parse.{answerOf, funcAfter, workAfter}
 use Rattle.reader.specs.Same.{accepted, cleared}
-use Rattle.put.specs.Put.{sat}
 use Rattle.emitter.specs.Lift.{Wants, early, outcome, scratch-tables, tabled, wanted-tabled}
 use Rattle.emitter.proofs.lift_function.Statement.{statement}
 use Rattle.emitter.proofs.lift_function.Tie as tie
@@ -98,7 +97,7 @@ returns-2 c =
           g .1 .1 .0 ∙ ap (λ (n : ℕ). replicate n 0) lw ∙ sym (scratch-tables F (a .first) (length o) w) ∙ ap (λ (x : Answer). scratchAfter x w) k,
           (
             g .0 .words ∙ ap (λ (x : Answer). outAfter x o) k,
-            subst (λ (n : ℕ). Wants (sat n) (c .before .before .before .before .before .before .from-tables .result)) (wanted-tabled t (a .first) (length f) (length w) (length o) F e) (g .1 .1 .1),
+            subst (λ (n : ℕ). Wants n (c .before .before .before .before .before .before .from-tables .result)) (wanted-tabled t (a .first) (length f) (length w) (length o) F e) (g .1 .1 .1),
           ),
         ),
       ),

@@ -11,7 +11,8 @@ use borrow.Author.Tests.{le-leb, leb-true, lt-leb}
 use Rattle.lifting.specs.Instructions.{listOf}
 use Rattle.lifting.specs.Words.{words}
 use Rattle.func.specs.Decode.{funcOf}
-use Rattle.emitter.specs.Listed.{count-is, counted, list-stands, room-is}
+use Rattle.sizes.specs.Bound.{text-bound}
+use Rattle.emitter.specs.Listed.{count-is, list-stands, room-is}
 use Rattle.emitter.proofs.Giving.{gives-list, gives-room, gives-values, missing-any, missing-none}
 use Rattle.emitter.proofs.written.Statement.{statement}
 use Rattle.emitter.proofs.written.Tie as tie
@@ -46,7 +47,7 @@ returns-2 c =
     let ok = p .0 .ready .stands .passes in
     let g : n * 4 < 9223372036854775808 = c .before .before .before .before .before .before .before .before .before .good .1 .1 .0 .1 in
     let e = c .before .before .before .before .put-list .ensures in
-    (gives-room F (a .first) n (a .out .now) (missing-none F (a .first) ok (p .1 .0) e (c .before .before .if1 .left)) (sym (room-is L e n (omega arith)) ∙ lt-leb _ n (c .if2 .taken)) _, counted L e)
+    (gives-room F (a .first) n (a .out .now) (missing-none F (a .first) ok (p .1 .0) e (c .before .before .if1 .left)) (sym (room-is L e n (omega arith)) ∙ lt-leb _ n (c .if2 .taken)) _, count-is L e (omega (arith, text-bound F (a .first) (ok .limits) (ok .references) (ok .tree) (ok .counts) (ok .control))))
 
 put-list-requires-2 : tie.Need-put-list-requires-2
 put-list-requires-2 c κs = search needs

@@ -1,7 +1,6 @@
 -- The entry's answer crosses as numbers: what it tells of a list or of a refusal, and of the words that refusal 11 wants, decides all of them.
 use mathlib.Core.Path.{sym, ap, subst, _∙_}
 use borrow.Author.Needs.{needs}
-use Rattle.put.specs.Put.{sat}
 use Rattle.emitter.specs.declared.Lifted.{Lifted}
 use Rattle.emitter.specs.Lift.{Wants, answerTo, told, wantedTo}
 use Rattle.sighvona.specs.Numbers.{numbers-list, numbers-refusal}
@@ -42,7 +41,7 @@ returns c =
     let a = c .before .before .before .before .before .before .before .before .before .before .before .before .before .before .before .before .before .args in
     let e = c .before .before .before .before .before .before .before .before .before .lift-function .ensures in
     let x = answerTo (a .text .now) (a .first) (a .func .now) (a .work .now) (a .out .now) in
-    let k = sat (wantedTo (a .text .now) (a .first) (a .func .now) (a .work .now)) in
+    let k = wantedTo (a .text .now) (a .first) (a .func .now) (a .work .now) in
     let n = numbers-list x _ _ k (a .words .now) (a .next .now) (ap told (sym (c .before .r .given .1)) ∙ e .0) in
     (n .refusal, (n .count, (n .free, (e .1 .0, (e .1 .1 .0, e .1 .1 .1 .0)))))
 
@@ -60,7 +59,7 @@ returns-2 c =
     let a = c .before .before .before .before .before .before .before .before .before .before .before .before .before .before .before .before .before .before .before .before .args in
     let e = c .before .before .before .before .before .before .before .before .before .before .before .before .lift-function .ensures in
     let x = answerTo (a .text .now) (a .first) (a .func .now) (a .work .now) (a .out .now) in
-    let k = sat (wantedTo (a .text .now) (a .first) (a .func .now) (a .work .now)) in
+    let k = wantedTo (a .text .now) (a .first) (a .func .now) (a .work .now) in
     let g = c .before .before .before .before .r2 .given in
     let n = numbers-refusal x (g .0 .0) k (a .words .now) (a .next .now) (ap told (sym (g .1)) ∙ e .0) (subst (λ (r : Lifted). Wants k r) (g .1) (e .1 .1 .1 .1)) in
     (c .cause-number .ensures ∙ n .refusal, (c .before .words-told .ensures ∙ n .count, (n .free, (e .1 .0, (e .1 .1 .0, e .1 .1 .1 .0)))))
