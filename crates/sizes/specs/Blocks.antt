@@ -20,11 +20,10 @@ use Rattle.lifting.specs.Words.{immWords, instWords, words}
 use Rattle.runs.specs.Shaped.{Shaped}
 use Rattle.flat.specs.Gathered.{gather-none, gather-one, words-gather}
 use Rattle.flat.specs.Flat.{Pass, Status, glueAt, goes, gone, noPair, part, partAt, starts, statusAt, unlessGlued, upTo}
-use Rattle.flat.specs.FlatLaws.{upTo-cons}
 use Rattle.flat.specs.ListFlat.{pairing, writing}
 use Rattle.flat.specs.Totals.{total, total-add}
 use Rattle.flat.specs.Laws
-use Rattle.sizes.specs.Sums.{length-gather, total-append, total-le, total-map, total-ones, total-scale, total-swap}
+use Rattle.sizes.specs.Sums.{length-gather, total-append, total-le, total-map, total-ones, total-scale, total-swap, total-upTo}
 use Rattle.sizes.specs.Weights.{blockWeight, edgeWeight, endWeight, flow, head, ifTo, imm, immTotal, mergeWeight, opWeight, opsWeight, sent}
 
 -- A pass over kept blocks, where each end weighs at most e.
@@ -49,20 +48,12 @@ module _ {A : Type 0} (wt : A → ℕ) (m : Pass A) (e : Terminator → ℕ) (en
   )
   part-weight (goes h) g x = omega (arith, total-append wt (gather (m .op) (x .1 .ops)) (unlessGlued m g (m .end h (x .1 .term))), end-weight g h (x .1 .term))
 
-  run-weight : (T : Table) (f : ℕ → List A) → ((i : ℕ) → total wt (f i) ≤ partWeight (getD T i noPair)) → total wt (upTo f (length T)) ≤ total partWeight T
-  unfolding upTo
-  run-weight [] f h = omega arith
-  run-weight (x ∷ T) f h = omega (
-    arith,
-    ap (total wt) (upTo-cons f (length T)),
-    total-append wt (f 0) (upTo (λ i. f (suc i)) (length T)),
-    h 0,
-    run-weight T (λ i. f (suc i)) (λ i. h (suc i)),
-  )
-
   pub pass-weight : (c : CfgPoint → ℕ) (T : Table) → total wt (upTo (partAt c m T) (length T)) ≤ total partWeight T
   unfolding partAt
-  pass-weight c T = run-weight T (partAt c m T) (λ i. part-weight (statusAt c T i) (glueAt c T i) (getD T i noPair))
+  pass-weight c T = omega (
+    arith,
+    total-upTo wt partWeight noPair (λ i. 0) T (partAt c m T) (λ i h. omega (arith, part-weight (statusAt c T i) (glueAt c T i) (getD T i noPair))),
+  )
 
 -- the words of immediates, of a list and of an instruction
 length-imms : (l : List Imm) → length (immWords l) ≡ imm * length l

@@ -4,12 +4,14 @@ use mathlib.Core.Path.{_≡_, refl, sym, ap, _∙_, subst}
 use mathlib.Core.Logic.{_⊎_, inl, inr}
 use mathlib.Core.List.{List, [], _∷_, _++_, map}
 use mathlib.Core.Option.{Option, none, some}
-use Prim.Native.Nat.{ℕ, _+_, _*_, _≤_}
+use Prim.Native.Nat.{ℕ, suc, _+_, _*_, _≤_, _<_}
 use native.Mathlib.Nat.{mul-add, mul-one, mul-zero}
 use native.Mathlib.Omega.{arith}
 use lib.ListN.{getD, length, length-append}
 use Rattle.lifting.specs.Lists.{below, choose, find, gather, keys}
 use Rattle.runs.specs.Members.{In, NoDup, here, in-cases, map-tabulate, tabulate-all, there}
+use Rattle.flat.specs.Flat.{upTo}
+use Rattle.flat.specs.FlatLaws.{upTo-cons}
 use Rattle.flat.specs.Totals.{total, total-add, total-none, total-once}
 
 -- each weight at most another
@@ -50,6 +52,20 @@ total-scale c f (x ∷ l) = ap (λ (n : ℕ). c * f x + n) (total-scale c f l) �
 
 pub total-plus : {A : Type 0} (c : ℕ) (f : A → ℕ) (l : List A) → total (λ x. c + f x) l ≡ c * length l + total f l
 total-plus c f l = total-add (λ x. c) f l ∙ ap (λ (n : ℕ). n + total f l) (ap (λ (n : ℕ). total (λ x. n) l) (sym (mul-one c)) ∙ total-scale c (λ x. 1) l ∙ ap (λ (n : ℕ). c * n) (total-ones l))
+
+-- Over what stands at the numbers of a list's lines, where each part with what is in store before it weighs at most its line with what is in
+-- store behind it.
+pub total-upTo : {A B : Type 0} (w : A → ℕ) (g : B → ℕ) (d : B) (store : ℕ → ℕ) (l : List B) (f : ℕ → List A) → ((i : ℕ) → i < length l → total w (f i) + store i ≤ g (getD l i d) + store (suc i))
+    → total w (upTo f (length l)) + store 0 ≤ total g l + store (length l)
+unfolding upTo
+total-upTo w g d store [] f h = omega arith
+total-upTo w g d store (x ∷ l) f h = omega (
+  arith,
+  ap (total w) (upTo-cons f (length l)),
+  total-append w (f 0) (upTo (λ i. f (suc i)) (length l)),
+  h 0 (omega arith),
+  total-upTo w g d (λ i. store (suc i)) l (λ i. f (suc i)) (λ i k. h (suc i) (omega arith)),
+)
 
 -- rows and columns
 pub total-swap : {A B : Type 0} (f : A → B → ℕ) (k : List A) (l : List B) → total (λ x. total (f x) l) k ≡ total (λ y. total (λ x. f x y) k) l
