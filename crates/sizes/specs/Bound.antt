@@ -1,18 +1,16 @@
 -- No list has more than `maxWords` words, whatever the text, the first id and the slices lent; so refusal 11 needs an output slice of fewer.
 -- Assumes nothing.
 use mathlib.Core.Path.{_≡_, refl, ap, subst}
-use mathlib.Core.Bool.{Bool, true, false, _&&_}
+use mathlib.Core.Bool.{Bool, true, false}
 use mathlib.Core.List.{List, [], _∷_, _++_}
-use mathlib.Core.Option.{Option, none, some}
 use Prim.Native.Nat.{ℕ, suc, _+_, _*_, _≤_, _<_}
 use native.Mathlib.Omega.{arith}
 use lib.Dec.{leb}
 use lib.ListN.{length}
 use borrow.Author.Tests.{leb-false, leb-true}
 use Rattle.lifting.specs.Ast.{Decl, Func}
-use Rattle.lifting.specs.Grammar.{read}
 use Rattle.lifting.specs.Parts.{decls, hasBody, immediates, targets, values}
-use Rattle.lifting.specs.Limits.{maxBytes, maxConsts, maxDecls, maxImmediates, maxNodes, maxOps, maxParams, maxRegions, maxTargets, maxValues, scratchWords, withinLimits}
+use Rattle.lifting.specs.Limits.{maxConsts, maxDecls, maxImmediates, maxNodes, maxOps, maxParams, maxRegions, maxTargets, maxValues, withinLimits}
 use Rattle.lifting.specs.References.{referencesHold}
 use Rattle.lifting.specs.Tree.{isTree}
 use Rattle.lifting.specs.Counts.{countsAgree}
@@ -23,7 +21,7 @@ use Rattle.lifting.specs.Walk.{walkOf, walkRoots}
 use Rattle.lifting.specs.Absorb.{absorb, kept}
 use Rattle.lifting.specs.Instructions.{blockInsts, endInst, functionInst, instructions, listOf, paramInst, paramInsts}
 use Rattle.lifting.specs.Words.{words}
-use Rattle.lifting.specs.Answer.{Answer, Parsed, answer, checked, denied, formed, idsFit, lifted, listed, parse, parsed, refused, valuesSet, written}
+use Rattle.lifting.specs.Answer.{Answer, Parsed, answer, idsFit, lifted, listed, parsed, refused, valuesSet, written}
 use Rattle.runs.specs.Tests.{both}
 use Rattle.runs.specs.Refers.{Refers, refers}
 use Rattle.runs.specs.Shaped.{Shaped, shaped-checked}
@@ -33,6 +31,7 @@ use Rattle.sizes.specs.Weights.{head, imm, linesWeight, maxWords}
 use Rattle.sizes.specs.Blocks.{blocks-weight, instWeight, length-inst, length-words}
 use Rattle.sizes.specs.Flow.{points-weight}
 use Rattle.sizes.specs.Lines.{phi-lines, points-lines}
+use Rattle.sizes.specs.Parsing.{by-parse, by-test}
 
 module _ (F : Func) (first : ℕ) where
   abbrev T : Table
@@ -107,12 +106,6 @@ abbrev Bounded : ℕ → Answer → Type 0
 Bounded out (listed ws next) = length ws ≤ maxWords
 Bounded out (refused n) = n ≡ 11 → out < maxWords
 
--- by a test, in either case
-by-test : {A : Type 0} (P : A → Type 0) (b : Bool) (x y : A) → (b ≡ false → P x) → (b ≡ true → P y) → P (elim b [ false ↦ x | true ↦ y ])
-by-test P false x y f t = f refl
-by-test P true x y f t = t refl
-
--- the refusals in their order
 module _ (first out : ℕ) where
   abbrev Claim : Parsed → Type 0
   Claim p = Bounded out (lifted p first out)
@@ -128,27 +121,11 @@ module _ (first out : ℕ) where
       by-test (Bounded out) (valuesSet F) (refused 10) _ (λ e. early 10 (omega arith)) (λ v.
       by-test (Bounded out) (leb (length (words (listOf F first))) out) (refused 11) _ (λ e z. omega (arith, leb-false (length (words (listOf F first))) out e)) (λ r. h)))
 
-  checked-bounded : (F : Func) → Claim (checked F)
-  unfolding checked lifted
-  checked-bounded F =
-      by-test Claim (withinLimits F) (denied 3) _ (λ e. early 3 (omega arith)) (λ limits.
-      by-test Claim (referencesHold F) (denied 4) _ (λ e. early 4 (omega arith)) (λ references.
-      by-test Claim (isTree F) (denied 5) _ (λ e. early 5 (omega arith)) (λ tree.
-      by-test Claim (countsAgree F) (denied 6) _ (λ e. early 6 (omega arith)) (λ counts.
-      by-test Claim (controlFits F) (denied 7) (parsed F) (λ e. early 7 (omega arith)) (λ control.
-      listed-bounded F (text-bound F first limits references tree counts control))))))
-
-  formed-bounded : (o : Option Func) → Claim (formed o)
-  unfolding formed lifted
-  formed-bounded none = early 2 (omega arith)
-  formed-bounded (some F) = checked-bounded F
-
 bounded : (text : List ℕ) (first func work out : ℕ) → Bounded out (answer text first func work out)
-unfolding answer parse lifted
+unfolding answer lifted
 bounded text first func work out =
-    by-test (Claim first out) (leb scratchWords func && leb scratchWords work) (denied 8) _ (λ e. early first out 8 (omega arith)) (λ s.
-    by-test (Claim first out) (leb (length text) maxBytes) (denied 1) _ (λ e. early first out 1 (omega arith)) (λ b.
-    formed-bounded first out (read text)))
+    by-parse (Claim first out) (λ n h. early first out n (omega arith))
+    (λ F limits references tree counts control. listed-bounded first out F (text-bound F first limits references tree counts control)) text func work
 
 -- No list is longer.
 pub list-bound : (text : List ℕ) (first func work out : ℕ) (ws : List ℕ) (next : ℕ) → answer text first func work out ≡ listed ws next → length ws ≤ maxWords

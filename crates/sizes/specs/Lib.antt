@@ -3,4 +3,5 @@ pub mod Weights
 pub mod Blocks
 pub mod Flow
 pub mod Lines
+pub mod Parsing
 pub mod Bound
