@@ -3,5 +3,6 @@ pub mod Weights
 pub mod Blocks
 pub mod Flow
 pub mod Lines
+pub mod Labels
 pub mod Parsing
 pub mod Bound

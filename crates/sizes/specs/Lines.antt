@@ -33,7 +33,7 @@ use Rattle.sizes.specs.Weights.{ctrlWeight, imm, immTotal, initsOf, line
 in-below : (n i : ℕ) → i < n → In i (below n)
 in-below n i h = in-tabulate (λ j. j) 0 n i (omega arith) (omega arith)
 
-below-once : (n : ℕ) → NoDup (below n)
+pub below-once : (n : ℕ) → NoDup (below n)
 below-once n = nodup-tabulate (λ i. i) (λ i j e. e) 0 n
 
 -- What is gathered from lines stands at one of them; and if nothing stands twice at one line, nor at two, nothing stands twice in all.
@@ -189,7 +189,7 @@ module _ (F : Func) where
     kid-below r h = let w = gather-line childrenOf (block []) (F .nodes) h in ok .forest .child-range (w .0) r (w .1)
 
     -- no more children than regions
-    child-lines : length (childList F) ≤ length (F .regions)
+    pub child-lines : length (childList F) ≤ length (F .regions)
     child-lines = omega (
       arith,
       total-ones (childList F),
@@ -237,18 +237,27 @@ module _ (F : Func) where
         let w = point-block p T i in
         all-in (λ x. In (x .0) allPoints) T (chain-all (Step F) _ step-point T none (walk-steps F ok)) (p, w .0) (find-in eqPoint p T (w .1))
 
+    -- so they weigh at most what the text's points weigh
+    pub points-within : (f : CfgPoint → ℕ) → total f (points T)
+        ≤ (total (λ r. f (regionEntry r)) (below (length (F .regions))) + total (λ r. f (regionExit r)) (below (length (F .regions))))
+        + (total (λ n. f (nodeEntry n)) (below (length (F .nodes))) + total (λ n. f (nodeExit n)) (below (length (F .nodes))))
+    points-within f = omega (
+      arith,
+      total-within f (points T) allPoints (walk-once F ok) a-point,
+      total-append f entries (exits ++ (ins ++ outs)),
+      total-append f exits (ins ++ outs),
+      total-append f ins outs,
+      total-map f regionEntry (below (length (F .regions))),
+      total-map f regionExit (below (length (F .regions))),
+      total-map f nodeEntry (below (length (F .nodes))),
+      total-map f nodeExit (below (length (F .nodes))),
+    )
+
     -- all visited points
     pub points-lines : total (pointWeight F) (points T) ≤ linesWeight F
     points-lines = omega (
       arith,
-      total-within (pointWeight F) (points T) allPoints (walk-once F ok) a-point,
-      total-append (pointWeight F) entries (exits ++ (ins ++ outs)),
-      total-append (pointWeight F) exits (ins ++ outs),
-      total-append (pointWeight F) ins outs,
-      total-map (pointWeight F) regionEntry (below (length (F .regions))),
-      total-map (pointWeight F) regionExit (below (length (F .regions))),
-      total-map (pointWeight F) nodeEntry (below (length (F .nodes))),
-      total-map (pointWeight F) nodeExit (below (length (F .nodes))),
+      points-within (pointWeight F),
       region-lines,
       ctrl-lines,
       node-lines,
