@@ -1,6 +1,7 @@
--- How many bytes a printed list has: at most twelve for each of its words. Assumes nothing.
+-- How many bytes a printed list has, at most twelve for each of its words, and a refusal's line. Assumes nothing.
 --     digits-length     a number has at most ten digits
 --     list-room         a list's bytes by its words
+--     refused-room      a refusal's line
 use mathlib.Core.Path.{ap}
 use mathlib.Core.Bool.{Bool, true, false}
 use mathlib.Core.List.{List, [], _∷_, _++_}
@@ -8,12 +9,13 @@ use Prim.Native.Nat.{ℕ, zero, suc, _+_, _*_, _/_, _%_, _≤_}
 use native.Mathlib.Omega.{arith}
 use lib.Dec.{ltb}
 use lib.ListN.{length, length-append}
+use Rattle.lifting.specs.Bytes.{bytes}
 use Rattle.lifting.specs.Digits.{digits, digitsTo}
 use Rattle.lifting.specs.Ast.{Imm}
 use Rattle.lifting.specs.Instructions.{Instruction}
 use Rattle.lifting.specs.Words.{immWords, instWords, words}
-use Rattle.printed.specs.Shown.{instBytes, listBytes}
-use Rattle.printed.specs.Lines.{fieldBytes, immBytes, immsBytes, idsBytes, headBytes, immFormBytes, idFormBytes, inst-is}
+use Rattle.printed.specs.Shown.{instBytes, listBytes, refusedBytes}
+use Rattle.printed.specs.Lines.{fieldBytes, immBytes, immsBytes, idsBytes, headBytes, immFormBytes, idFormBytes, inst-is, refused-is}
 
 digitsTo-length : (k n : ℕ) → length (digitsTo k n) ≤ k
 unfolding digitsTo
@@ -62,3 +64,13 @@ pub list-room : (l : List Instruction) → length (listBytes l) ≤ 12 * length 
 unfolding listBytes words
 list-room [] = omega arith
 list-room (i ∷ l) = omega (arith, length-append (instBytes i) (listBytes l), length-append (instWords i) (words l), inst-room i, list-room l)
+
+pub refused-room : (n : ℕ) → length (refusedBytes n) ≤ 21
+refused-room n =
+    omega (
+      arith,
+      ap length (refused-is n),
+      length-append (bytes "(refused") (fieldBytes n ++ bytes ")\n"),
+      length-append (fieldBytes n) (bytes ")\n"),
+      digits-length n,
+    )

@@ -1,31 +1,18 @@
 -- How many bytes are printed at most: twelve for each word of the output slice, or a refusal's line. Assumes nothing.
-use mathlib.Core.Path.{_≡_, refl, sym, ap, _∙_}
-use mathlib.Core.List.{List, _++_}
+use mathlib.Core.Path.{_≡_, refl, ap, _∙_}
+use mathlib.Core.List.{List}
 use mathlib.Core.Option.{Option, none, some}
 use Prim.Native.Nat.{ℕ, _+_, _*_, _≤_}
 use native.Mathlib.Omega.{arith}
-use lib.ListN.{length, length-append}
-use Rattle.lifting.specs.Bytes.{bytes}
-use Rattle.lifting.specs.Digits.{digits}
+use lib.ListN.{length}
 use Rattle.lifting.specs.Instructions.{Instruction, listOf}
 use Rattle.lifting.specs.Words.{list-from, listFrom, words}
 use Rattle.lifting.specs.Answer.{Answer, answer, listed, refused}
 use Rattle.runs.specs.Passes.{answer-passes}
-use Rattle.printed.specs.Shown.{listBytes, refusedBytes}
-use Rattle.printed.specs.Lines.{fieldBytes, refused-is}
-use Rattle.printed.specs.Room.{digits-length, list-room}
+use Rattle.printed.specs.Shown.{listBytes}
+use Rattle.printed.specs.Room.{list-room, refused-room}
 use Rattle.printed.specs.Opening.{firstLine}
 use Rattle.told.specs.Input.{answerBytes, inputBytes, lineBytes}
-
-refused-room : (n : ℕ) → length (refusedBytes n) ≤ 21
-refused-room n =
-    omega (
-      arith,
-      ap length (refused-is n),
-      length-append (bytes "(refused") (fieldBytes n ++ bytes ")\n"),
-      length-append (fieldBytes n) (bytes ")\n"),
-      digits-length n,
-    )
 
 module _ (out : ℕ) where
   answer-room : (text : List ℕ) (first func work : ℕ) (a : Answer) → answer text first func work out ≡ a → length (answerBytes a) ≤ 12 * out + 21
