@@ -1,7 +1,8 @@
 -- The lines of a function, put one visited point at a time. Assumes nothing.
---     chain-at, run-next, run-end     the points of a block, by position
+--     chain-at, run-suc, run-next, run-end     the points of a block, by position
 --     lines-are                       the lines are what stands at each position, one after the other
---     part-gone, part-is              what stands at a position, by its words
+--     part-starts, part-goes          what stands at a position, by where its point stands
+--     part-gone, part-is              and by its words
 --     side-region, side-node          a point by its number
 use mathlib.Core.Path.{_≡_, refl, sym, ap, subst, _∙_}
 use mathlib.Core.Bool.{Bool, true, false, cond}
@@ -45,7 +46,7 @@ module _ (c : CfgPoint → ℕ) where
       let p = getD T i noPair .0 in
       choose-no (eqPoint p (x .0)) _ _ (λ e. once .0 (subst (λ (q : CfgPoint). In q (points T)) e (points-in T i (omega arith)))) ∙ run-at T i (once .1) (omega arith)
 
-  run-suc : (T : Table) (i : ℕ) → i < length T → runOf c (drop i T) ≡ getD T i noPair .0 ∷ cond (glueAt c T i) (runOf c (drop (suc i) T)) []
+  pub run-suc : (T : Table) (i : ℕ) → i < length T → runOf c (drop i T) ≡ getD T i noPair .0 ∷ cond (glueAt c T i) (runOf c (drop (suc i) T)) []
   unfolding runOf glueAt
   run-suc [] i h = absurd (omega arith)
   run-suc (x ∷ T) zero h = refl
@@ -114,11 +115,11 @@ module _ (F : Func) where
   unfolding part
   part-gone i e = at-status i gone (word-gone (stands F i) (pointAt F i) e)
 
-  part-starts : (i : ℕ) → stands F i ≡ starts → lineAt i ≡ startBytes F (pointAt F i) ++ closeBytes (absorbs F i) (pointAt F i) (blockAt F i .term)
+  pub part-starts : (i : ℕ) → stands F i ≡ starts → lineAt i ≡ startBytes F (pointAt F i) ++ closeBytes (absorbs F i) (pointAt F i) (blockAt F i .term)
   unfolding part
   part-starts i e = at-status i starts e ∙ ap (λ (l : List ℕ). startBytes F (pointAt F i) ++ l) (by-glue (absorbs F i) (pointAt F i) (blockAt F i .term) (blockAt F i .ops))
 
-  part-goes : (i : ℕ) (h : CfgPoint) → stands F i ≡ goes h → lineAt i ≡ closeBytes (absorbs F i) h (blockAt F i .term)
+  pub part-goes : (i : ℕ) (h : CfgPoint) → stands F i ≡ goes h → lineAt i ≡ closeBytes (absorbs F i) h (blockAt F i .term)
   unfolding part
   part-goes i h e = at-status i (goes h) e ∙ by-glue (absorbs F i) h (blockAt F i .term) (blockAt F i .ops)
 

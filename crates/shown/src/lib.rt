@@ -57,13 +57,12 @@ pub fn put_text(text: &[u8], func: &mut [u32], work: &mut [u32], out: &mut [u8])
     put_bytes(out, n, b"%%\n")
 }
 
-const ROOM: usize = 65536;
-
-// Prints it, where it fits the room: the lines of 512 points, with 512 targets of ctrl lines and 128 cases, have under 50,000 bytes.
-pub fn tell(text: &[u8], func: &mut [u32], work: &mut [u32]) {
-    let mut out = [0u8; 65536];
+// Prints it, from a buffer of `maxLines` bytes.
+pub fn tell(text: &[u8], func: &mut [u32], work: &mut [u32])
+    ensures func_slice { λ _. ⌜ now (func .exit) ≡ funcAfter (parse (now (text .entry)) (length (now (func .entry))) (length (now (work .entry)))) (now (func .entry)) ⌝ }
+    ensures work_slice { λ _. ⌜ WorkAfter (parse (now (text .entry)) (length (now (func .entry))) (length (now (work .entry)))) (now (work .entry)) (now (work .exit)) ⌝ }
+{
+    let mut out = [0u8; 55683];
     let n = put_text(text, func, work, &mut out);
-    if n <= ROOM {
-        io::write_all(1, &out[..n]);
-    }
+    io::write_all(1, &out[..n]);
 }
