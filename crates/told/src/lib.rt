@@ -9,7 +9,8 @@ use printed::refused;
 ghost use Prim.Native.Nat.{_+_, _*_, _≤_};
 ghost use lib.ListN.{length};
 ghost use mathlib.Core.Path.{_≡_};
-ghost use Rattle.lifting.specs.Answer.{answer, outAfter, scratchAfter};
+ghost use Rattle.lifting.specs.Answer.{outAfter, scratchAfter};
+ghost use Rattle.emitter.specs.Lift.{answerTo};
 ghost use Rattle.printed.specs.Put.{Put};
 ghost use Rattle.told.specs.Input.{Stands, answerBytes, inputBytes, inputLeaves, liftedBytes, outWords};
 
@@ -33,10 +34,10 @@ fn put_text(
     work: &mut [u32],
     out: &mut [u32],
 ) -> usize
-    ensures { λ n. ⌜ Put (now (bytes .entry)) 0 (answerBytes (answer (now (text .entry)) first (length (now (func .entry))) (length (now (work .entry))) (length (now (out .entry))))) (now (bytes .exit)) n ⌝ }
-    ensures { λ _. ⌜ now (func .exit) ≡ scratchAfter (answer (now (text .entry)) first (length (now (func .entry))) (length (now (work .entry))) (length (now (out .entry)))) (now (func .entry)) ⌝ }
-    ensures { λ _. ⌜ now (work .exit) ≡ scratchAfter (answer (now (text .entry)) first (length (now (func .entry))) (length (now (work .entry))) (length (now (out .entry)))) (now (work .entry)) ⌝ }
-    ensures { λ _. ⌜ now (out .exit) ≡ outAfter (answer (now (text .entry)) first (length (now (func .entry))) (length (now (work .entry))) (length (now (out .entry)))) (now (out .entry)) ⌝ }
+    ensures { λ n. ⌜ Put (now (bytes .entry)) 0 (answerBytes (answerTo (now (text .entry)) first (now (func .entry)) (now (work .entry)) (now (out .entry)))) (now (bytes .exit)) n ⌝ }
+    ensures { λ _. ⌜ now (func .exit) ≡ scratchAfter (answerTo (now (text .entry)) first (now (func .entry)) (now (work .entry)) (now (out .entry))) (now (func .entry)) ⌝ }
+    ensures { λ _. ⌜ now (work .exit) ≡ scratchAfter (answerTo (now (text .entry)) first (now (func .entry)) (now (work .entry)) (now (out .entry))) (now (work .entry)) ⌝ }
+    ensures { λ _. ⌜ now (out .exit) ≡ outAfter (answerTo (now (text .entry)) first (now (func .entry)) (now (work .entry)) (now (out .entry))) (now (out .entry)) ⌝ }
 {
     let r = lift_function(text, first, func, work, out);
     put_lifted(bytes, r, out)
@@ -50,11 +51,11 @@ pub fn put_input(
     work: &mut [u32],
     out: &mut [u32],
 ) -> usize
-    ensures { λ n. ⌜ Put (now (bytes .entry)) 0 (inputBytes (now (input .entry)) (length (now (func .entry))) (length (now (work .entry))) (length (now (out .entry)))) (now (bytes .exit)) n ⌝ }
-    ensures { λ n. ⌜ n ≤ 12 * length (now (out .entry)) + 21 ⌝ }
-    ensures { λ _. ⌜ now (func .exit) ≡ inputLeaves scratchAfter (now (input .entry)) (length (now (func .entry))) (length (now (work .entry))) (length (now (out .entry))) (now (func .entry)) ⌝ }
-    ensures { λ _. ⌜ now (work .exit) ≡ inputLeaves scratchAfter (now (input .entry)) (length (now (func .entry))) (length (now (work .entry))) (length (now (out .entry))) (now (work .entry)) ⌝ }
-    ensures { λ _. ⌜ now (out .exit) ≡ inputLeaves outAfter (now (input .entry)) (length (now (func .entry))) (length (now (work .entry))) (length (now (out .entry))) (now (out .entry)) ⌝ }
+    ensures printed { λ n. ⌜ Put (now (bytes .entry)) 0 (inputBytes (now (input .entry)) (length (now (func .entry))) (length (now (work .entry))) (length (now (out .entry)))) (now (bytes .exit)) n ⌝ }
+    ensures count { λ n. ⌜ n ≤ 12 * length (now (out .entry)) + 21 ⌝ }
+    ensures func_slice { λ _. ⌜ now (func .exit) ≡ inputLeaves scratchAfter (now (input .entry)) (length (now (func .entry))) (length (now (work .entry))) (length (now (out .entry))) (now (func .entry)) ⌝ }
+    ensures work_slice { λ _. ⌜ now (work .exit) ≡ inputLeaves scratchAfter (now (input .entry)) (length (now (func .entry))) (length (now (work .entry))) (length (now (out .entry))) (now (work .entry)) ⌝ }
+    ensures out_slice { λ _. ⌜ now (out .exit) ≡ inputLeaves outAfter (now (input .entry)) (length (now (func .entry))) (length (now (work .entry))) (length (now (out .entry))) (now (out .entry)) ⌝ }
 {
     let First::At(first, at) = first_line(input) else {
         return refused(2, bytes);

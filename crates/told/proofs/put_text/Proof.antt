@@ -21,7 +21,7 @@ put-lifted-requires : tie.Need-put-lifted-requires
 put-lifted-requires c κs =
     let a = c .before .before .before .before .before .before .before .before .before .before .before .before .before .before .before .before .before .args in
     let e = c .before .before .before .before .before .before .before .before .lift-function .ensures in
-    lifted-stands (a .text .now) (a .func .now) (a .work .now) (a .out .now) _ (a .first) (c .before .before .before .before .before .before .before .before .lift-function .result) (e .0) (e .1 .1 .1)
+    lifted-stands (a .text .now) (a .func .now) (a .work .now) (a .out .now) _ (a .first) (c .before .before .before .before .before .before .before .before .lift-function .result) (e .0) (e .1 .1 .1 .0)
 
 same-length : tie.Need-same-length
 same-length c = search needs
@@ -39,7 +39,7 @@ returns : tie.Need-returns
 returns c =
     let a = c .before .before .before .before .before .before .before .before .before .before .before .before .before .before .before .before .before .before .before .before .args in
     let e = c .before .before .before .before .before .before .before .before .before .before .before .lift-function .ensures in
-    (put-same (c .before .before .put-lifted .ensures) (lifted-bytes (a .text .now) (a .func .now) (a .work .now) (a .out .now) _ (a .first) (c .before .before .before .before .before .before .before .before .before .before .before .lift-function .result) (e .0) (e .1 .1 .1)), (e .1 .0, (e .1 .1 .0, e .1 .1 .1)))
+    (put-same (c .before .before .put-lifted .ensures) (lifted-bytes (a .text .now) (a .func .now) (a .work .now) (a .out .now) _ (a .first) (c .before .before .before .before .before .before .before .before .before .before .before .lift-function .result) (e .0) (e .1 .1 .1 .0)), (e .1 .0, (e .1 .1 .0, e .1 .1 .1 .0)))
 
 pub put-text-spec : {M : Type 1} → statement M
 put-text-spec =
