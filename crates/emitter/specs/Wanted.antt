@@ -1,60 +1,30 @@
 -- Refusal 11 can be mended by the caller: an output slice of as many words as are wanted holds the list. Assumes nothing.
 --     wanted-enough    after refusal 11, the answer with enough room is the list, which has the wanted words
 use mathlib.Core.Path.{_≡_, refl, ap}
-use mathlib.Core.Bool.{Bool, true, false, _&&_}
+use mathlib.Core.Bool.{Bool, true, false}
 use mathlib.Core.List.{List}
-use mathlib.Core.Option.{Option, none, some}
-use Prim.Native.Nat.{ℕ, _≤_}
+use Prim.Native.Nat.{ℕ, _≤_, _<_}
 use native.Mathlib.Omega.{arith}
 use lib.Dec.{leb}
 use lib.ListN.{length}
 use borrow.Author.Tests.{le-leb}
 use Rattle.lifting.specs.Ast.{Func}
-use Rattle.lifting.specs.Grammar.{read}
-use Rattle.lifting.specs.Limits.{maxBytes, scratchWords, withinLimits}
-use Rattle.lifting.specs.References.{referencesHold}
-use Rattle.lifting.specs.Tree.{isTree}
-use Rattle.lifting.specs.Counts.{countsAgree}
-use Rattle.lifting.specs.Control.{controlFits}
 use Rattle.lifting.specs.Walk.{walkOf}
 use Rattle.lifting.specs.Absorb.{kept}
 use Rattle.lifting.specs.Ids.{nextId}
 use Rattle.lifting.specs.Instructions.{listOf}
 use Rattle.lifting.specs.Words.{words}
-use Rattle.lifting.specs.Answer.{Answer, Parsed, answer, checked, denied, formed, idsFit, lifted, listed, parse, parsed, refused, valuesSet, written}
+use Rattle.lifting.specs.Answer.{Answer, Parsed, answer, denied, idsFit, lifted, listed, parse, parsed, refused, valuesSet, written}
+use Rattle.sizes.specs.Parsing.{by-parse}
 use Rattle.emitter.specs.Lift.{wanted, wantedBy}
 
 -- a text is denied by 8 and 1 to 7 alone, so 11 is no denial
 abbrev Low : Parsed → Type 0
 Low (parsed F) = Unit {0}
-Low (denied n) = n ≤ 8
-
-checked-low : (F : Func) → Low (checked F)
-unfolding checked
-checked-low F = go (withinLimits F) (referencesHold F) (isTree F) (countsAgree F) (controlFits F)
-  where
-    go : (a b c d e : Bool)
-        → Low (elim a as (λ x. Parsed) [ false ↦ denied 3 | true ↦ elim b as (λ x. Parsed) [ false ↦ denied 4 | true ↦ elim c as (λ x. Parsed) [ false ↦ denied 5 | true ↦ elim d as (λ x. Parsed) [ false ↦ denied 6 | true ↦ elim e as (λ x. Parsed) [ false ↦ denied 7 | true ↦ parsed F ] ] ] ] ])
-    go false b c d e = omega arith
-    go true false c d e = omega arith
-    go true true false d e = omega arith
-    go true true true false e = omega arith
-    go true true true true false = omega arith
-    go true true true true true = tt
-
-formed-low : (o : Option Func) → Low (formed o)
-unfolding formed
-formed-low none = omega arith
-formed-low (some F) = checked-low F
+Low (denied n) = n < 9
 
 denied-low : (text : List ℕ) (func work : ℕ) → Low (parse text func work)
-unfolding parse
-denied-low text func work = go (leb scratchWords func && leb scratchWords work) (leb (length text) maxBytes)
-  where
-    go : (a b : Bool) → Low (elim a as (λ x. Parsed) [ false ↦ denied 8 | true ↦ elim b as (λ x. Parsed) [ false ↦ denied 1 | true ↦ formed (read text) ] ])
-    go false b = omega arith
-    go true false = omega arith
-    go true true = formed-low (read text)
+denied-low = by-parse Low (λ n h. h) (λ F limits references tree counts control. tt)
 
 enough : (p : Parsed) → Low p → (first out : ℕ) → lifted p first out ≡ refused 11 → (k : ℕ) → wantedBy p first ≤ k
     → (ws : List ℕ) × (n : ℕ) × (lifted p first k ≡ listed ws n) × (length ws ≡ wantedBy p first)
