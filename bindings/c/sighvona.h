@@ -15,7 +15,7 @@
 
 /* The version of this header, and the number of it that `sighvona_version` gives for the library's. Macros, so that #if can ask. */
 #define SIGHVONA_VERSION_MAJOR 0
-#define SIGHVONA_VERSION_MINOR 2
+#define SIGHVONA_VERSION_MINOR 3
 #define SIGHVONA_VERSION_PATCH 0
 #define SIGHVONA_VERSION (SIGHVONA_VERSION_MAJOR * 65536u + SIGHVONA_VERSION_MINOR * 256u + SIGHVONA_VERSION_PATCH)
 
@@ -28,8 +28,8 @@ enum {
     SIGHVONA_SCRATCH_WORDS = 16384,
     /* the most bytes of a text */
     SIGHVONA_TEXT_BYTES = 32768,
-    /* the highest id that is given */
-    SIGHVONA_HIGHEST_ID = 4194303,
+    /* the highest id that is given: the next free id, a module's bound, is one more at most */
+    SIGHVONA_HIGHEST_ID = 4194302,
     /* No list has more words, which is proved (crates/sizes, `list-bound`): with an output slice of so many, refusal 11 never comes. */
     SIGHVONA_MAX_WORDS = 23184
 };
@@ -60,7 +60,7 @@ enum sighvona_answer {
     SIGHVONA_CONTROL = 7,
     /* a scratch slice has under 16,384 words */
     SIGHVONA_SCRATCH = 8,
-    /* the first id is 0 or not above every id in the text, or an id over 4,194,303 would be given */
+    /* the first id is 0 or not above every id in the text, or an id over 4,194,302 would be given */
     SIGHVONA_IDS = 9,
     /* a kept instruction uses a value that no kept block sets and that is neither a constant nor a parameter */
     SIGHVONA_VALUES = 10,

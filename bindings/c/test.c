@@ -58,7 +58,7 @@ static const struct refused {
     {SIGHVONA_CONTROL, "two ctrl lines for a region", 10, FUNC EMPTY, "(ctrl 0 0 return (ins) (to) (vals))\n", 2},
     {SIGHVONA_IDS, "the first id is 0", 0, FUNC "(imported)\n", "", 0},
     {SIGHVONA_IDS, "the first id is one of the text", 3, FUNC "(imported)\n", "", 0},
-    {SIGHVONA_IDS, "the label would get id 4,194,304", SIGHVONA_HIGHEST_ID, FUNC EMPTY, "", 0},
+    {SIGHVONA_IDS, "the label would get an id over the highest", SIGHVONA_HIGHEST_ID, FUNC EMPTY, "", 0},
     {SIGHVONA_VALUES, "an input of a region that is not reached", 10,
      FUNC EMPTY "(region (in (0 4)) (nodes) (out))\n(ctrl 0 0 return (ins (r 1 0)) (to) (vals))\n", "", 0},
     {SIGHVONA_VALUES, "a result of a dropped block", 10,
@@ -182,10 +182,26 @@ static void listing(void) {
         refuse(SIGHVONA_SCRATCH, LISTING, length, 10, SHORT[i].func_len, SHORT[i].work_len, WORDS);
         read_alone(SIGHVONA_SCRATCH, LISTING, length, SHORT[i].func_len, SHORT[i].work_len);
     }
+}
 
+/* Texts that give so many ids: the last one may be the highest, and is refused beyond it. */
+static void highest_id(void) {
+    static const struct {
+        const char *text;
+        uint32_t ids;
+    } given[] = {
+        {FUNC EMPTY, 2},
+        {FUNC "(imported)\n", 1},
+        {FUNC "(param 0 4)\n(param 0 4)\n(imported)\n", 3},
+    };
     about = "the highest id";
-    lift(SIGHVONA_LIFTED, FUNC EMPTY, sizeof FUNC EMPTY - 1, SIGHVONA_HIGHEST_ID - 1, WORDS, WORDS, WORDS);
-    expect(next == SIGHVONA_HIGHEST_ID + 1, "next id");
+    expect(SIGHVONA_HIGHEST_ID == 4194302, "one below the universal limit of a module's bound");
+    for (size_t i = 0; i < COUNT(given); i++) {
+        uint32_t above = SIGHVONA_HIGHEST_ID + 1;
+        lift(SIGHVONA_LIFTED, given[i].text, strlen(given[i].text), above - given[i].ids, WORDS, WORDS, WORDS);
+        expect(next == above, "next id");
+        refuse(SIGHVONA_IDS, given[i].text, strlen(given[i].text), above - given[i].ids + 1, WORDS, WORDS, WORDS);
+    }
 }
 
 /* A text that is refused: with output slices of any length, but 8 comes first. */
@@ -244,8 +260,9 @@ static void stepping(void) {
 int main(void) {
     about = "the version";
     expect(sighvona_version() == SIGHVONA_VERSION, "the library's is the header's");
-    expect(SIGHVONA_VERSION == 512, "0.2.0 as a number");
+    expect(SIGHVONA_VERSION == 768, "0.3.0 as a number");
     listing();
+    highest_id();
     for (size_t i = 0; i < COUNT(REFUSED); i++) {
         refused(&REFUSED[i]);
     }

@@ -45,7 +45,7 @@ use std::fmt;
 
 /// The version that this crate is for: major * 65,536 + minor * 256 + patch. [`library_version`]
 /// tells that of the archive that was linked.
-pub const VERSION: u32 = version(0, 2, 0);
+pub const VERSION: u32 = version(0, 3, 0);
 
 const fn version(major: u32, minor: u32, patch: u32) -> u32 {
     major * 65_536 + minor * 256 + patch
@@ -56,6 +56,9 @@ pub const SCRATCH_WORDS: usize = 16_384;
 
 /// The longest text that is not refused.
 pub const TEXT_BYTES: usize = 32_768;
+
+/// The highest id that is given: the next free id, a module's bound, is one more at most.
+pub const HIGHEST_ID: u32 = 4_194_302;
 
 /// No list has more words, which is proved (crates/sizes, `list-bound`): with an output slice of so
 /// many, [`Refusal::Output`] never comes.
@@ -114,8 +117,8 @@ pub enum Refusal {
     /// 8: a scratch slice has fewer than [`SCRATCH_WORDS`] words. [`lift`] and [`read`] never give
     /// this, as a [`Scratch`] has enough.
     Scratch,
-    /// 9: the first id is 0 or not above every id in the text, or an id over 4,194,303 would be
-    /// given.
+    /// 9: the first id is 0 or not above every id in the text, or an id over [`HIGHEST_ID`] would
+    /// be given.
     Ids,
     /// 10: a kept instruction uses a value that no kept block sets and that is neither a constant
     /// nor a parameter.

@@ -2,7 +2,8 @@
 //! list, and the version.
 
 use sighvona::{instructions, lift, lift_in, read, read_in, sys};
-use sighvona::{Immediate, Lifted, Refusal, Scratch, MAX_WORDS, SCRATCH_WORDS, TEXT_BYTES};
+use sighvona::{Immediate, Lifted, Refusal, Scratch};
+use sighvona::{HIGHEST_ID, MAX_WORDS, SCRATCH_WORDS, TEXT_BYTES};
 
 const LISTING: &[u8] = b"(func 0 2 3 0)\n(const 5 43)\n(region (in) (nodes 0) (out))\n(block 0)\n\
     (op 0 4 (inst 128) (c 0) (c 0))\n";
@@ -123,9 +124,22 @@ fn refusals() {
     assert_eq!(refusal(10, &format!("{empty}{twice}")), (7, Refusal::Control));
     assert_eq!(refusal(0, empty), (9, Refusal::Ids));
     assert_eq!(refusal(3, empty), (9, Refusal::Ids));
-    assert_eq!(refusal(4_194_303, empty), (9, Refusal::Ids));
     assert_eq!(refusal(10, &format!("{empty}{input}")), (10, Refusal::Values));
-    assert_eq!(refusal(4_194_302, empty), (11, Refusal::Output { wanted: 28 }));
+    assert_eq!(refusal(10, empty), (11, Refusal::Output { wanted: 28 }));
+}
+
+/// Texts that give so many ids: the last one may be the highest, and is refused beyond it.
+#[test]
+fn highest_id() {
+    let params = "(param 0 4)\n(param 0 4)\n(imported)\n";
+    assert_eq!(HIGHEST_ID, 4_194_302);
+    for (rest, ids) in [("(region (in) (nodes) (out))\n", 2), ("(imported)\n", 1), (params, 3)] {
+        let text = format!("(func 0 2 3 0)\n{rest}");
+        let first = HIGHEST_ID + 1 - ids;
+        let lifted = lift(text.as_bytes(), first, &mut Scratch::new(), &mut vec![0; MAX_WORDS]);
+        assert_eq!(lifted.map(|list| list.next), Ok(HIGHEST_ID + 1));
+        assert_eq!(refusal(first + 1, rest), (9, Refusal::Ids));
+    }
 }
 
 #[test]
@@ -194,7 +208,7 @@ fn steps_through_any_words() {
 #[test]
 fn version() {
     assert_eq!(sighvona::library_version(), sighvona::VERSION);
-    assert_eq!(sighvona::VERSION, 512);
+    assert_eq!(sighvona::VERSION, 768);
     let [major, minor, patch] = [16, 8, 0].map(|bits| sighvona::VERSION >> bits & 255);
     assert_eq!(format!("{major}.{minor}.{patch}"), env!("CARGO_PKG_VERSION"));
 }

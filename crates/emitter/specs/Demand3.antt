@@ -1,18 +1,19 @@
 -- Demands 2 and 3 about the words that stand in the output slice after an accepted call: running the regions of the text and running the blocks of
--- that list are alike in every world, and neither run is ever stuck; the list gives each new id once; each phi has one pair for each block whose way
--- out names its block. The hypotheses are what `lift_function` promises, that it told a word count, and for the runs that the text has a body.
--- Assumes nothing.
+-- that list are alike in every world, and neither run is ever stuck; the list gives each new id once, and every id in it is below the next free one;
+-- each phi has one pair for each block whose way out names its block. The hypotheses are what `lift_function` promises, that it told a word count, and
+-- for the runs that the text has a body. Assumes nothing.
 use mathlib.Core.Path.{_≡_, refl, sym, ap, subst, _∙_}
 use mathlib.Core.Bool.{true}
 use mathlib.Core.List.{List, _++_}
 use mathlib.Core.Option.{some}
-use Prim.Native.Nat.{ℕ, _≤_, _<_}
+use Prim.Native.Nat.{ℕ, suc, _≤_, _<_}
 use native.Mathlib.Omega.{arith}
 use lib.ListN.{drop, length, length-append, take}
 use lib.Seq.{take-append-seam}
 use Rattle.lifting.specs.Ast.{Func}
 use Rattle.lifting.specs.Grammar.{read}
 use Rattle.lifting.specs.Parts.{hasBody}
+use Rattle.lifting.specs.Limits.{highestId}
 use Rattle.lifting.specs.Walk.{walkOf}
 use Rattle.lifting.specs.Absorb.{kept}
 use Rattle.lifting.specs.Instructions.{Instruction}
@@ -23,11 +24,12 @@ use Rattle.lifting.specs.World.{Executed, World, stuck}
 use Rattle.lifting.specs.RegionRun.{regionLog, regionStart, regionStep}
 use Rattle.lifting.specs.BlockRun.{blockLog, blockStart, blockStep, parts, phisOf}
 use Rattle.lifting.specs.Runs.{AlikeRuns, TrueConstants}
-use Rattle.runs.specs.Members.{In}
+use Rattle.runs.specs.Members.{All, In}
 use Rattle.runs.specs.ListIds.{RunOn, givenIds}
 use Rattle.runs.specs.ListPhis.{PhiPairs, phiIds}
 use Rattle.runs.specs.Demand3.{demand-3, never-stuck}
-use Rattle.flat.specs.Demand2.{list-ids, list-phis}
+use Rattle.flat.specs.Below.{idsIn}
+use Rattle.flat.specs.Demand2.{list-below, list-ids, list-phis}
 use Rattle.emitter.specs.declared.Lifted.the-variants.{Whole}
 use Rattle.emitter.specs.Lift.{gives, outcome, refuses, told}
 
@@ -68,6 +70,13 @@ module _ (text func work out exit : List ℕ) (first n next : ℕ) where
         let l = written-list in
         subst (λ (ws : List ℕ). RunOn first next (givenIds (listFrom ws))) (sym (l .2))
         (list-ids text first (length func) (length work) (length out) (l .0) next (l .1))
+
+    -- the next free id is 4,194,303 at most, and every id in the list lies below it (document 02, W3)
+    pub lifted-below : (next ≤ suc highestId) × All (λ i. All (λ x. x < next) (idsIn i)) (listFrom (take n exit))
+    lifted-below =
+        let l = written-list in
+        subst (λ (ws : List ℕ). (next ≤ suc highestId) × All (λ i. All (λ x. x < next) (idsIn i)) (listFrom ws)) (sym (l .2))
+        (list-below text first (length func) (length work) (length out) (l .0) next (l .1))
 
     -- phi j of block k: one pair for each block of the list whose way out names k, and no other, with that edge's value
     pub lifted-phis : (F : Func) → read text ≡ some F → (k : ℕ) (body : List Instruction) → In (k, body) (parts (listFrom (take n exit)) .blocks)

@@ -1,32 +1,35 @@
 -- Demand 2 about the list that is written, for every accepted text, imported functions too: new ids run from the first id to one below the next
--- free id, none twice, and a phi has one pair for each kept block with an edge to it, holding that edge's value. No hypothesis beyond the answer.
--- Assumes nothing.
+-- free id, none twice; every id in the list is below that one, which is 4,194,303 at most; and a phi has one pair for each kept block with an edge to
+-- it, holding that edge's value. No hypothesis beyond the answer. Assumes nothing.
 use mathlib.Core.Path.{_≡_, refl, sym, ap, _∙_, subst}
 use mathlib.Core.Bool.{true}
 use mathlib.Core.List.{List}
 use mathlib.Core.Option.{some}
-use Prim.Native.Nat.{ℕ, _<_}
+use Prim.Native.Nat.{ℕ, suc, _≤_, _<_}
 use lib.ListN.{length}
 use Rattle.lifting.specs.Ast.{Func}
 use Rattle.lifting.specs.Grammar.{read}
 use Rattle.lifting.specs.Parts.{hasBody}
+use Rattle.lifting.specs.Limits.{highestId}
 use Rattle.lifting.specs.Points.{Table}
 use Rattle.lifting.specs.Walk.{walkOf}
 use Rattle.lifting.specs.Absorb.{absorb, kept}
-use Rattle.lifting.specs.Ids.{phiKeys}
+use Rattle.lifting.specs.Ids.{nextId, phiKeys}
 use Rattle.lifting.specs.Instructions.{Instruction, listOf}
 use Rattle.lifting.specs.Words.{listFrom}
 use Rattle.lifting.specs.BlockRun.{parts, phisOf}
 use Rattle.lifting.specs.Answer.{answer, listed}
-use Rattle.runs.specs.Members.{In}
+use Rattle.runs.specs.Members.{All, In}
 use Rattle.runs.specs.Listing.{blocksFor, emit-blocks}
 use Rattle.runs.specs.EmitRun.{all-free}
+use Rattle.runs.specs.Fits.{first-fits}
 use Rattle.runs.specs.Passes.{answer-passes}
 use Rattle.runs.specs.Shaped.{Shaped, shaped-accepted}
 use Rattle.runs.specs.ListIds.{RunOn, givenIds, ids-run-on}
 use Rattle.runs.specs.ListPhis.{PhiPairs, phiIds, phi-pairs-of}
 use Rattle.runs.specs.EveryText.{of-walk}
 use Rattle.runs.specs.Demand3.{accepted, fine, list-is, passed}
+use Rattle.flat.specs.Below.{idsIn, list-low}
 use Rattle.flat.specs.Phis.{phi-keys-kept}
 use Rattle.flat.specs.NeverDecides.{by-count-alone, keptByCount}
 
@@ -77,3 +80,17 @@ pub list-ids : (text : List ℕ) (first func work out : ℕ) (ws : List ℕ) (ne
 list-ids text first func work out ws next ok =
     let w = answer-passes text first func work out ws next ok in
     ids-of text first func work out ws next ok (w .0) (w .1 .text-is)
+
+-- Document 02, W3: the highest id given is 4,194,302, so the next free id, a module's bound, is at most one more; every id in the list, the text's
+-- and new ones, lies below it.
+pub list-below : (text : List ℕ) (first func work out : ℕ) (ws : List ℕ) (next : ℕ) → answer text first func work out ≡ listed ws next
+    → (next ≤ suc highestId) × All (λ i. All (λ x. x < next) (idsIn i)) (listFrom ws)
+list-below text first func work out ws next ok =
+    let w = answer-passes text first func work out ws next ok in
+    let F : Func = w .0 in
+    let f = first-fits F first (w .1 .ids) in
+    let low = list-low F first (f .positive) (f .under) in (
+      subst (λ (n : ℕ). n ≤ suc highestId) (sym (w .1 .next-is)) (f .highest),
+      subst (λ (n : ℕ). All (λ i. All (λ x. x < n) (idsIn i)) (listFrom ws)) (sym (w .1 .next-is))
+          (subst (All (λ i. All (λ x. x < nextId F first (walkOf F) (kept (walkOf F))) (idsIn i))) (sym (list-is text first func work out ws next ok F (w .1 .text-is))) low),
+    )

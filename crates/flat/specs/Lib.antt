@@ -16,5 +16,6 @@ pub mod ListFlat
 pub mod Kept
 pub mod Callees
 pub mod Missing
+pub mod Below
 pub mod Laws
 pub mod Demand2

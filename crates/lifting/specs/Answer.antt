@@ -58,7 +58,7 @@ parse text func work =
       | true ↦ elim (leb (length text) maxBytes) [ false ↦ denied 1 | true ↦ formed (read text) ]
     ]
 
--- 9 the first id is 0 or not above every id in the text, or an id over 4,194,303 would be given
+-- 9 the first id is 0 or not above every id in the text, or an id over 4,194,302 would be given (document 02, W3)
 unfoldable pub idsFit : Func → ℕ → Bool
 unfolding ids nextId walkOf kept
 idsFit F first = ltb 0 first && every (λ x. ltb x first) (ids F) && leb (nextId F first (walkOf F) (kept (walkOf F))) (suc highestId)

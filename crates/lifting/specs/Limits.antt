@@ -49,9 +49,9 @@ maxImmKind = 2
 abbrev pub scratchWords : ℕ
 scratchWords = 16384
 
--- 9 an id over 4,194,303 would be given
+-- 9 an id over 4,194,302 would be given (document 02, W3)
 abbrev pub highestId : ℕ
-highestId = 4194303
+highestId = 4194302
 
 -- A text passes 3.
 unfoldable pub withinLimits : Func → Bool

@@ -88,19 +88,19 @@ starred =
     ∷ row
     "(func 0 2 3 0)\n(const 5 43)\n(region (in) (nodes) (out))\n(region (in (0 4)) (nodes) (out))\n(ctrl 0 0 bool (ins (c 0)) (to 1 1) (vals (1 (c 0))))\n(ctrl 1 0 return (ins (r 1 0)) (to) (vals))\n"
     10 (pairsOfPhis (1 ∷ []))
-    -- no nodes, first id 4,194,302: accepted; 4,194,303: refusal 9
-    ∷ row "(func 0 2 3 0)\n(region (in) (nodes) (out))\n" 4194302
+    -- no nodes, first id 4,194,301: accepted; 4,194,302: refusal 9 (document 02, W3)
+    ∷ row "(func 0 2 3 0)\n(region (in) (nodes) (out))\n" 4194301
     (gives
-    (54 ∷ 0 ∷ 2 ∷ 4194302 ∷ 1 ∷ 0 ∷ 1 ∷ 0 ∷ 1 ∷ 3 ∷ 248 ∷ 0 ∷ 0 ∷ 4194303 ∷ 0 ∷ 0 ∷ 253 ∷ 0 ∷ 0 ∷ 0 ∷ 0 ∷ 0 ∷ 56 ∷ 0 ∷ 0 ∷ 0 ∷ 0 ∷ 0 ∷ [])
-    4194304)
-    ∷ row "(func 0 2 3 0)\n(region (in) (nodes) (out))\n" 4194303 (refuses 9)
+    (54 ∷ 0 ∷ 2 ∷ 4194301 ∷ 1 ∷ 0 ∷ 1 ∷ 0 ∷ 1 ∷ 3 ∷ 248 ∷ 0 ∷ 0 ∷ 4194302 ∷ 0 ∷ 0 ∷ 253 ∷ 0 ∷ 0 ∷ 0 ∷ 0 ∷ 0 ∷ 56 ∷ 0 ∷ 0 ∷ 0 ∷ 0 ∷ 0 ∷ [])
+    4194303)
+    ∷ row "(func 0 2 3 0)\n(region (in) (nodes) (out))\n" 4194302 (refuses 9)
     ∷ []
 
 pub starred-hold : every right starred ≡ true
 unfolding right
 starred-hold = refl
 
--- Further texts; their lists are the Rust's.
+-- Further texts; the lists are the Rust's.
 abbrev pub further : List Row
 further =
     -- the way back of a loop on opcode 41 is unconditional
@@ -124,6 +124,14 @@ further =
     -- an imported function has no blocks
     ∷ row "(func 0 2 3 0)\n(param 0 4)\n(imported)\n" 20
     (gives (54 ∷ 0 ∷ 2 ∷ 20 ∷ 1 ∷ 0 ∷ 1 ∷ 0 ∷ 1 ∷ 3 ∷ 55 ∷ 0 ∷ 4 ∷ 21 ∷ 0 ∷ 0 ∷ 56 ∷ 0 ∷ 0 ∷ 0 ∷ 0 ∷ 0 ∷ []) 22)
+    -- and gives an id to itself and to each parameter: both sides of the highest id, without parameters and with two
+    ∷ row "(func 0 2 3 0)\n(imported)\n" 4194302 (gives (54 ∷ 0 ∷ 2 ∷ 4194302 ∷ 1 ∷ 0 ∷ 1 ∷ 0 ∷ 1 ∷ 3 ∷ 56 ∷ 0 ∷ 0 ∷ 0 ∷ 0 ∷ 0 ∷ []) 4194303)
+    ∷ row "(func 0 2 3 0)\n(imported)\n" 4194303 (refuses 9)
+    ∷ row "(func 0 2 3 0)\n(param 0 4)\n(param 0 4)\n(imported)\n" 4194300
+    (gives
+    (54 ∷ 0 ∷ 2 ∷ 4194300 ∷ 1 ∷ 0 ∷ 1 ∷ 0 ∷ 1 ∷ 3 ∷ 55 ∷ 0 ∷ 4 ∷ 4194301 ∷ 0 ∷ 0 ∷ 55 ∷ 0 ∷ 4 ∷ 4194302 ∷ 0 ∷ 0 ∷ 56 ∷ 0 ∷ 0 ∷ 0 ∷ 0 ∷ 0 ∷ [])
+    4194303)
+    ∷ row "(func 0 2 3 0)\n(param 0 4)\n(param 0 4)\n(imported)\n" 4194301 (refuses 9)
     ∷ []
 
 pub further-hold : every right further ≡ true

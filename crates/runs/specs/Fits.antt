@@ -3,23 +3,44 @@ use mathlib.Core.Path.{_≡_, refl}
 use mathlib.Core.Bool.{Bool, true, false≢true, _&&_}
 use mathlib.Core.List.{List, [], _∷_}
 use mathlib.Core.Option.{some}
-use Prim.Native.Nat.{ℕ, zero, suc, _<_}
+use Prim.Native.Nat.{ℕ, zero, suc, _≤_, _<_}
 use native.Mathlib.Decide.{ℕ-discrete}
 use native.Mathlib.Omega.{arith}
 use lib.Dec.{leb, ltb, eqb}
 use lib.ListN.{length}
-use borrow.Author.Tests.{ltb-true, eqb-true, not-true}
+use borrow.Author.Tests.{leb-true, ltb-true, eqb-true, not-true}
 use Rattle.lifting.specs.Lists.{every, within, distinct, keys}
 use Rattle.lifting.specs.Ast.{Value, SelectionKind, boolCond, spvInst, DataInstKind, inst, call, ext, Decl, Node, block, select, loop, Region, ControlInstKind, unreachable, return, branch, selectBranch, exitInvocation, ControlInst, Const, Func}
 use Rattle.lifting.specs.Parts.{constOf, regionOf, nodeOf, opOf, ctrlOf, hasBody, childrenOf, blockOps, valsFor, selectionInsts, opInsts, ctrlInsts, nodeList, opList, childList, requiredIds, ids}
+use Rattle.lifting.specs.Limits.{highestId}
 use Rattle.lifting.specs.Tree.{aroundItself, isTree}
 use Rattle.lifting.specs.Counts.{casesFit, nodeFits, edgesFit, bodyFits, countsAgree}
 use Rattle.lifting.specs.Control.{kindFits, isRoot, ctrlFits, controlFits}
+use Rattle.lifting.specs.Walk.{walkOf}
+use Rattle.lifting.specs.Absorb.{kept}
+use Rattle.lifting.specs.Ids.{nextId}
 use Rattle.lifting.specs.Answer.{idsFit}
 use Rattle.runs.specs.Members.{In, there, in-left, in-map, in-getD, All, all-in, NoDup, not-within}
 use Rattle.runs.specs.Accepted.{FreeInst, FreeOp, FreeSelection, FreeKind, Enough, WayFit, Root, Forest, Targets, Fitting, Numbered}
 use Rattle.runs.specs.Tests.{both, every-in, all-at, every-all, find-in, every-below, in-at, distinct-once, stands-once, once-at, same-place, once-by}
 use Rattle.runs.specs.Refers.{Refers}
+
+-- 9: the first id is above 0 and above each id of the text, and no id over the highest is given.
+pub record FirstFits (F : Func) (first : ℕ) : Type 0 where
+  pub positive : 0 < first
+  pub under : All (λ x. x < first) (ids F)
+  pub highest : nextId F first (walkOf F) (kept (walkOf F)) ≤ suc highestId
+
+pub first-fits : (F : Func) (first : ℕ) → idsFit F first ≡ true → FirstFits F first
+unfolding idsFit
+first-fits F first e =
+    let b = both _ _ e in
+    let c = both _ _ (b .0) in
+    record {
+      positive = ltb-true 0 first (c .0);
+      under = every-all (λ x. ltb x first) (λ x. x < first) (λ x h. ltb-true x first h) (ids F) (c .1);
+      highest = leb-true _ _ (b .1);
+    }
 
 -- an INST of a line is free of the table; the counts of cases and targets
 free-selection : (k : SelectionKind) → All FreeInst (selectionInsts k) → FreeSelection k
@@ -158,12 +179,12 @@ module _ (F : Func) where
 
   -- 9, and the const ids of 4
   pub numbered : (first : ℕ) → Refers F → idsFit F first ≡ true → Numbered F first
-  unfolding idsFit
+  unfolding ids requiredIds
   numbered first ok e =
-      let low = both _ _ (both _ _ e .0) in
+      let f = first-fits F first e in
       record {
-        positive = ltb-true 0 first (low .0);
-        under = λ n h. ltb-true (constOf F n .id) first (every-in (λ x. ltb x first) (ids F) (low .1) (constOf F n .id) (in-left _ (given n h)));
+        positive = f .positive;
+        under = λ n h. all-in _ (ids F) (f .under) (constOf F n .id) (in-left _ (given n h));
         once = once-by (λ (c : Const). c .id) _ (F .consts) (ok .consts-once);
         nonzero = λ n h. all-in _ (requiredIds F) (ok .ids-above) (constOf F n .id) (given n h);
       }

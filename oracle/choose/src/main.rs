@@ -27,7 +27,7 @@ const POOL: [(&str, u64); 5] = [
 ];
 const SAMPLED: [(&str, usize); 2] = [("skeletons", 7), ("graphs", 101)];
 
-/// Document 01's starred texts that are accepted.
+/// Document 01's starred texts that are accepted, with W3 of document 02.
 const STARRED: &str = include_str!("../starred.batch");
 
 /// The cases taken so far, and how often each thing is shown.

@@ -1,6 +1,7 @@
 //! Damaged copies of inputs, at byte, number and form level.
 
 use crate::rng::Rng;
+use refer::HIGHEST_ID;
 use std::ops::Range;
 
 /// The input with one to three changes. It still ends its last line, so that a batch can hold it.
@@ -57,7 +58,7 @@ fn number_level(rng: &mut Rng, bytes: &mut Vec<u8>) {
         3 | 4 => old.saturating_sub(1).to_string(),
         5 | 6 => rng.below(8).to_string(),
         7 => rng.pick(&[12, 41, 54, 57, 245, 248, 249, 250, 253, 255]).to_string(),
-        8 => rng.pick(&[65_535u64, 65_536, 4_194_302, 4_194_303, 4_194_304]).to_string(),
+        8 => rng.pick(&[65_535, 65_536, HIGHEST_ID, HIGHEST_ID + 1, HIGHEST_ID + 2]).to_string(),
         9 => rng.pick(&[u64::from(u32::MAX), 1 << 32, u64::MAX]).to_string(),
         10 => format!("0{old}"),
         _ => {

@@ -1,6 +1,7 @@
 //! Inputs on both sides of each limit, and lists that no limit bounds.
 
 use crate::print::{Case, ctrl, func, inst, region};
+use refer::HIGHEST_ID as H;
 use refer::read::*;
 
 const C: Value = Value::Const(0);
@@ -25,6 +26,11 @@ fn blocks(count: u32) -> Func {
     func.regions.push(region(&numbers));
     func.nodes.extend(numbers.iter().map(|_| Node::Block { ops: vec![] }));
     func
+}
+
+/// An imported function with so many parameters.
+fn imported(params: usize) -> Func {
+    Func { imported: true, params: vec![D; params], ..func() }
 }
 
 /// One block of ops.
@@ -204,17 +210,16 @@ pub fn limits() -> Vec<String> {
     for count in [16_383, 16_384, 16_385, 16_600] {
         all.push(words(count));
     }
-    for first in [0, 4, 5, 6, 4_194_301, 4_194_302, 4_194_303, 4_194_304, (1 << 32) - 1, 1 << 32] {
+    for first in [0, 4, 5, 6, H - 1, H, H + 1, H + 2, (1 << 32) - 1, 1 << 32] {
         all.push(with_first(first, blocks(0)));
-        let mut func = blocks(0);
-        func.regions.clear();
-        func.imported = true;
-        all.push(with_first(first, func));
+        all.push(with_first(first, imported(0)));
     }
-    // The last id given is 4,194,303, and one more; phis and op results take some too.
-    for func in [loops(127, 1, vec![]), row(128, 4, true), select(3, 2), targets(2, 2)] {
+    // The last id given is the highest, and one more; parameters, phis and op results take some too.
+    let texts =
+        [imported(2), loops(127, 1, vec![]), row(128, 4, true), select(3, 2), targets(2, 2)];
+    for func in texts {
         let (_, next) = refer::list::list(&func, 1);
-        let first = 4_194_304 - (next - 1);
+        let first = H + 1 - (next - 1);
         all.push(with_first(first, func.clone()));
         all.push(with_first(first + 1, func));
     }

@@ -1,4 +1,5 @@
-//! A plain reference of document 01, written from that paper: what `lift` prints for any input.
+//! A plain reference of document 01 with request W3 of document 02, written from these papers: what
+//! `lift` prints for any input.
 //!
 //! It shares no code with the oracle. Terminators are what 'Running the regions and the blocks'
 //! needs them to be, and the comparison with the oracle tells whether the Rust's are the same.
@@ -10,9 +11,11 @@ pub mod refuse;
 use list::Line;
 use read::{Cursor, Func};
 
-/// The words that `lift` lends for each slice, and the highest id that may be given.
+/// The words that `lift` lends for each slice.
 const SLICE_WORDS: usize = 16_384;
-const HIGHEST_ID: u64 = 4_194_303;
+/// The highest id that may be given: the universal limit of 4,194,303 is on a module's bound, and
+/// every id lies below it (document 02, W3).
+pub const HIGHEST_ID: u64 = 4_194_302;
 
 pub enum Answer {
     List { lines: Vec<Line>, words: usize, next: u64 },

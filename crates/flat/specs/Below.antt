@@ -1,0 +1,205 @@
+-- Document 02, W3: every id lies below the bound. No id that stands in the list is the next free id or above it: the text's ids are below the
+-- first id, and new ids run on to the next free id. Assumes nothing.
+use mathlib.Core.Path.{_≡_, refl}
+use mathlib.Core.List.{List, [], _∷_, _++_, map}
+use mathlib.Core.Bool.{Bool, true, false}
+use Prim.Native.Nat.{ℕ, zero, suc, _+_, _<_}
+use native.Mathlib.Omega.{arith}
+use lib.ListN.{getD, length}
+use Rattle.lifting.specs.Lists.{choose, gather}
+use Rattle.lifting.specs.Ast.{Decl, Func, Node, Op, Value, block, const, dataInstOutput, exit, loop, nodeOutput, regionInput, select}
+use Rattle.lifting.specs.Parts.{calleeIds, decls, hasBody, ids, nodeOf, opOf, outsOf, regionOf, requiredIds}
+use Rattle.lifting.specs.Points.{BlockLifting, CfgPoint, Merge, Table, Terminator, edgeOf, loopMerge, noMerge, selectionMerge}
+use Rattle.lifting.specs.Order.{roots}
+use Rattle.lifting.specs.Walk.{Place, entryDecls, inBlock, inNode, top, walkOf, walkRoots}
+use Rattle.lifting.specs.Absorb.{countIn, kept}
+use Rattle.lifting.specs.Ids.{Name, eqName, idOf, labelOf, names, newId, nextId, numberIn, label, theFunction, value}
+use Rattle.lifting.specs.Instructions.{Instruction, blockInsts, bodyInsts, functionInst, ifUsed, instructions, labelInst, listOf, mergeInsts, opInst, pairFrom, pairs, paramInst, paramInsts, phiInst, phiInsts, resultId, termInst}
+use Rattle.runs.specs.Members.{All, all-append, all-from, all-in}
+use Rattle.runs.specs.Tests.{all-at, all-line, all-part, all-split}
+use Rattle.runs.specs.Each.{Each, each-kept, every-point}
+
+-- the ids that stand in an instruction: result type, result, operands; 0 stands for none
+abbrev pub idsIn : Instruction → List ℕ
+idsIn i = i .type ∷ i .result ∷ i .ids
+
+all-map : {A B : Type 0} (P : B → Type 0) (f : A → B) (l : List A) → ((x : A) → P (f x)) → All P (map f l)
+all-map P f [] h = tt
+all-map P f (x ∷ l) h = (h x, all-map P f l h)
+
+all-unmap : {A B : Type 0} (P : B → Type 0) (f : A → B) (l : List A) → All P (map f l) → All (λ x. P (f x)) l
+all-unmap P f [] h = tt
+all-unmap P f (x ∷ l) h = (h .0, all-unmap P f l (h .1))
+
+number-below : (k : ℕ) (x : Name) (l : List Name) → 0 < k → numberIn k x l < k + length l
+number-below k x [] h = omega arith
+number-below k x (y ∷ l) h = by-case (eqName x y) (number-below (suc k) x l (omega arith))
+  where
+    by-case : (d : Dec (x ≡ y)) → numberIn (suc k) x l < suc k + length l → choose d k (numberIn (suc k) x l) < k + suc (length l)
+    by-case (yes p) ih = omega arith
+    by-case (no n) ih = omega arith
+
+module _ (F : Func) (first : ℕ) (positive : 0 < first) (under : All (λ x. x < first) (ids F)) where
+  module _ (T K : Table) where
+    abbrev Low : ℕ → Type 0
+    Low x = x < nextId F first T K
+
+    zero-low : Low 0
+    unfolding nextId
+    zero-low = omega arith
+
+    ids-low : All Low (ids F)
+    unfolding nextId
+    ids-low = all-from Low (ids F) (λ x i. omega (arith, all-in _ (ids F) under x i))
+
+    new-low : (x : Name) → Low (newId F first T K x)
+    unfolding nextId newId
+    new-low x = number-below first x (names F T K) positive
+
+    -- the ids of the text, kind by kind
+    record Given : Type 0 where
+      ret : Low (F .ret)
+      type : Low (F .type)
+      consts : All (λ c. Low (c .id)) (F .consts)
+      params : All (λ d. Low (d .type)) (F .params)
+      decls : All (λ d. Low (d .type)) (decls F)
+      callees : All Low (gather (λ o. calleeIds (o .kind)) (F .ops))
+      types : All (λ o. Low (o .type)) (F .ops)
+
+    given : Given
+    unfolding ids requiredIds
+    given =
+        let a = all-split Low (requiredIds F) (map (λ o. o .type) (F .ops)) ids-low in
+        let b = all-split Low (map (λ c. c .id) (F .consts)) _ (a .0 .1 .1) in
+        let c = all-split Low (map (λ d. d .type) (F .params)) _ (b .1) in
+        let d = all-split Low (map (λ d. d .type) (decls F)) _ (c .1) in
+        record {
+          ret = a .0 .0;
+          type = a .0 .1 .0;
+          consts = all-unmap Low _ (F .consts) (b .0);
+          params = all-unmap Low _ (F .params) (c .0);
+          decls = all-unmap Low _ (decls F) (d .0);
+          callees = d .1;
+          types = all-unmap Low _ (F .ops) (a .1);
+        }
+
+    id-low : (v : Value) → Low (idOf F first T K v)
+    unfolding idOf
+    id-low (const n) = all-at _ (F .consts) (given .consts) _ zero-low n
+    id-low (regionInput r i) = new-low (value (regionInput r i))
+    id-low (nodeOutput n i) = new-low (value (nodeOutput n i))
+    id-low (dataInstOutput i) = new-low (value (dataInstOutput i))
+
+    label-low : (p : CfgPoint) → Low (labelOf F first T K p)
+    unfolding labelOf
+    label-low p = new-low (label p)
+
+    -- instruction by instruction
+    abbrev LowIds : Instruction → Type 0
+    LowIds i = All Low (idsIn i)
+
+    pairs-low : (L : Table) (q : CfgPoint) (j : ℕ) → All Low (pairs F first T K L q j)
+    unfolding pairs
+    pairs-low [] q j = tt
+    pairs-low (x ∷ L) q j = all-append Low (pairFrom F first T K x q j) _ (by-count (countIn q (x .1 .term .targets))) (pairs-low L q j)
+      where
+        by-count : (n : ℕ) → All Low (ifUsed n (idOf F first T K (getD (edgeOf K (x .1 .term) q) j (const 0)) ∷ labelOf F first T K (x .0) ∷ []))
+        by-count zero = tt
+        by-count (suc n) = (id-low (getD (edgeOf K (x .1 .term) q) j (const 0)), (label-low (x .0), tt))
+
+    -- phis have the types of their declarations
+    abbrev LowType : Decl → Type 0
+    LowType d = Low (d .type)
+
+    phis-low : (q : CfgPoint) (ks : List Value) (ds : List Decl) (j : ℕ) → All LowType ds → All LowIds (phiInsts F first T K q ks ds j)
+    unfolding phiInsts phiInst
+    phis-low q [] ds j h = tt
+    phis-low q (k ∷ ks) ds j h = ((all-at LowType ds h _ zero-low j, (id-low k, pairs-low K q j)), phis-low q ks ds (suc j) h)
+
+    result-low : (t i : ℕ) → Low (resultId F first T K t i)
+    result-low zero i = zero-low
+    result-low (suc t) i = id-low (dataInstOutput i)
+
+    op-low : (i : ℕ) → LowIds (opInst F first T K i)
+    unfolding opInst
+    op-low i =
+        let Callees : Op → Type 0 = λ o. All Low (calleeIds (o .kind)) in
+        let callees = all-from Callees (F .ops) (λ o h. all-part Low _ (F .ops) (given .callees) h) in
+        let operands = all-append Low (calleeIds (opOf F i .kind)) _ (all-at Callees (F .ops) callees _ (zero-low, tt) i) (all-map Low _ (opOf F i .operands) id-low) in
+        (all-at _ (F .ops) (given .types) _ zero-low i, (result-low (opOf F i .type) i, operands))
+
+    merge-low : (m : Merge) → All LowIds (mergeInsts F first T K m)
+    unfolding mergeInsts
+    merge-low noMerge = tt
+    merge-low (selectionMerge a) = ((zero-low, (zero-low, (label-low a, tt))), tt)
+    merge-low (loopMerge a b) = ((zero-low, (zero-low, (label-low a, (label-low b, tt)))), tt)
+
+    term-low : (t : Terminator) → LowIds (termInst F first T K t)
+    unfolding termInst
+    term-low t = (zero-low, (zero-low, all-append Low (map (idOf F first T K) (t .ins)) _ (all-map Low _ (t .ins) id-low) (all-map Low _ (t .targets) label-low)))
+
+    body-low : (q : CfgPoint) (b : BlockLifting) → All LowType (b .decls) → All LowIds (bodyInsts F first T K q b)
+    unfolding bodyInsts
+    body-low q b h =
+        all-append LowIds (phiInsts F first T K q (b .keys) (b .decls) 0) _ (phis-low q (b .keys) (b .decls) 0 h)
+        (all-append LowIds (map (opInst F first T K) (b .ops)) _ (all-map LowIds _ (b .ops) op-low)
+        (all-append LowIds (mergeInsts F first T K (b .term .merge)) _ (merge-low (b .term .merge)) (term-low (b .term), tt)))
+
+    blocks-low : (L : Table) → Each (λ b. All LowType (b .decls)) L → All LowIds (blockInsts F first T K L)
+    unfolding blockInsts labelInst
+    blocks-low [] h = tt
+    blocks-low (x ∷ L) h = ((zero-low, (label-low (x .0), tt)), all-append LowIds (bodyInsts F first T K (x .0) (x .1)) _ (body-low (x .0) (x .1) (h .0)) (blocks-low L (h .1)))
+
+    params-low : (ds : List Decl) (i : ℕ) → All LowType ds → All LowIds (paramInsts F first T K ds i)
+    unfolding paramInsts paramInst
+    params-low [] i h = tt
+    params-low (d ∷ ds) i h = ((h .0, (id-low (regionInput 0 i), tt)), params-low ds (suc i) (h .1))
+
+    insts-low : Each (λ b. All LowType (b .decls)) K → All LowIds (instructions F first T K)
+    unfolding instructions functionInst
+    insts-low h = (
+      (given .ret, (new-low theFunction, (given .type, tt))),
+      all-append LowIds (paramInsts F first T K (F .params) 0) _ (params-low (F .params) 0 (given .params))
+          (all-append LowIds (blockInsts F first T K K) _ (blocks-low K h) ((zero-low, (zero-low, tt)), tt)),
+    )
+
+  -- the declarations of phis are the text's
+  module _ (P : Decl → Type 0) (h : All P (decls F)) where
+    abbrev Declared : CfgPoint × BlockLifting → Type 0
+    Declared x = All P (x .1 .decls)
+
+    by-kind : All P (gather (λ r. r .ins) (F .regions)) × All P (gather outsOf (F .nodes))
+    unfolding decls
+    by-kind = all-split P (gather (λ r. r .ins) (F .regions)) _ h
+
+    of-region : (r : ℕ) → All P (regionOf F r .ins)
+    of-region r = all-line P (λ r. r .ins) (F .regions) (by-kind .0) _ refl r
+
+    at-entry : (r : ℕ) (p : Place) → All P (entryDecls F r p)
+    at-entry zero top = tt
+    at-entry (suc r) top = of-region (suc r)
+    at-entry zero (inNode n) = tt
+    at-entry (suc r) (inNode n) = tt
+
+    at-node : (d : Node) (n : ℕ) → All P (inBlock F d n .decls)
+    at-node (block is) n = tt
+    at-node (select k v cs ds) n = tt
+    at-node (loop b c is) n = of-region b
+    at-node (exit i vs) n = tt
+
+    walked : All Declared (walkOf F)
+    unfolding walkOf
+    walked = by-body (hasBody (F .regions))
+      where
+        by-body : (b : Bool) → All Declared (elim b [ true ↦ walkRoots F (suc (length (F .regions))) (roots F) | false ↦ [] ])
+        by-body true = every-point F Declared {R = λ r. Unit {0}} (λ r p t. at-entry r p) (λ r p. tt) (λ n. at-node (nodeOf F n) n)
+            (λ n q. all-line P outsOf (F .nodes) (by-kind .1) _ refl n) (suc (length (F .regions))) (roots F) (λ r i. tt)
+        by-body false = tt
+
+    pub kept-declared : Each (λ b. All P (b .decls)) (kept (walkOf F))
+    kept-declared = each-kept (λ b. All P (b .decls)) tt (λ b k. k) (λ b c k l. k) (walkOf F) walked
+
+  -- each id in each instruction of the list
+  pub list-low : All (λ i. All (λ x. x < nextId F first (walkOf F) (kept (walkOf F))) (idsIn i)) (listOf F first)
+  unfolding listOf
+  list-low = insts-low (walkOf F) (kept (walkOf F)) (kept-declared _ (given (walkOf F) (kept (walkOf F)) .decls))

@@ -1,0 +1,28 @@
+"""What the tools share about cases given from outside: the sample vectors and the rows of Starred.antt."""
+import os, re
+
+from batch import ROOT, read, split
+
+# No id above this one is given (document 02, W3).
+HIGHEST_ID = 4194302
+RESULTS = re.compile(rb'^\([0-9]+ [0-9]+ [0-9]+ ([0-9]+) ', re.MULTILINE)
+
+
+def answered(answer):
+    """An answer by document 01 alone, with the requests of document 02 that are in force."""
+    above = any(int(result) > HIGHEST_ID for result in RESULTS.findall(answer))
+    return b'(refused 9)\n' if above else answer
+
+
+def vectors(folder):
+    """The inputs of a folder's cases.batch, each with its answer; answers.batch holds document 01's."""
+    cases, answers = (split(read(os.path.join(folder, name))) for name in ['cases.batch', 'answers.batch'])
+    return [(case, answered(answer)) for case, answer in zip(cases, answers, strict=True)]
+
+
+def rows():
+    """The rows of Starred.antt: first id, text, and the number that refuses it or 0."""
+    source = read(os.path.join(ROOT, 'crates', 'lifting', 'specs', 'Starred.antt')).decode()
+    found = re.findall(r'\brow\s+"([^"]*)"\s+([0-9]+)\s+\((?:refuses ([0-9]+)|gives|blocks|pairsOfPhis)', source)
+    assert len(found) == len(re.findall(r'\brow\s+"', source)) >= 12
+    return [(int(first), text.replace('\\n', '\n'), int(number or 0)) for text, first, number in found]
