@@ -40,7 +40,7 @@ returns-2 c =
     let a = c .before .before .before .before .before .before .args in
     let p = c .before .before .before .before .before .before .pre in
     let F = funcOf (a .func .now) in
-    (gives-ids F (a .first) (length (a .out .now)) (a .out .now) (ids-high F (a .first) (c .if2 .taken)), (refl, tt))
+    (gives-ids F (a .first) (length (a .out .now)) (a .out .now) (ids-high F (a .first) (omega (arith, c .if2 .taken))), (refl, tt))
 
 lay-requires : tie.Need-lay-requires
 lay-requires c κs = search needs
