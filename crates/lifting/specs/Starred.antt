@@ -124,14 +124,14 @@ further =
     -- an imported function has no blocks
     ∷ row "(func 0 2 3 0)\n(param 0 4)\n(imported)\n" 20
     (gives (54 ∷ 0 ∷ 2 ∷ 20 ∷ 1 ∷ 0 ∷ 1 ∷ 0 ∷ 1 ∷ 3 ∷ 55 ∷ 0 ∷ 4 ∷ 21 ∷ 0 ∷ 0 ∷ 56 ∷ 0 ∷ 0 ∷ 0 ∷ 0 ∷ 0 ∷ []) 22)
-    -- and gives an id to itself and to each parameter: both sides of the highest id, without parameters and with two
-    ∷ row "(func 0 2 3 0)\n(imported)\n" 4194302 (gives (54 ∷ 0 ∷ 2 ∷ 4194302 ∷ 1 ∷ 0 ∷ 1 ∷ 0 ∷ 1 ∷ 3 ∷ 56 ∷ 0 ∷ 0 ∷ 0 ∷ 0 ∷ 0 ∷ []) 4194303)
-    ∷ row "(func 0 2 3 0)\n(imported)\n" 4194303 (refuses 9)
+    -- and gives an id to itself and to each parameter: both sides of the highest id, with two parameters and with none
     ∷ row "(func 0 2 3 0)\n(param 0 4)\n(param 0 4)\n(imported)\n" 4194300
     (gives
     (54 ∷ 0 ∷ 2 ∷ 4194300 ∷ 1 ∷ 0 ∷ 1 ∷ 0 ∷ 1 ∷ 3 ∷ 55 ∷ 0 ∷ 4 ∷ 4194301 ∷ 0 ∷ 0 ∷ 55 ∷ 0 ∷ 4 ∷ 4194302 ∷ 0 ∷ 0 ∷ 56 ∷ 0 ∷ 0 ∷ 0 ∷ 0 ∷ 0 ∷ [])
     4194303)
     ∷ row "(func 0 2 3 0)\n(param 0 4)\n(param 0 4)\n(imported)\n" 4194301 (refuses 9)
+    ∷ row "(func 0 2 3 0)\n(imported)\n" 4194302 (gives (54 ∷ 0 ∷ 2 ∷ 4194302 ∷ 1 ∷ 0 ∷ 1 ∷ 0 ∷ 1 ∷ 3 ∷ 56 ∷ 0 ∷ 0 ∷ 0 ∷ 0 ∷ 0 ∷ []) 4194303)
+    ∷ row "(func 0 2 3 0)\n(imported)\n" 4194303 (refuses 9)
     ∷ []
 
 pub further-hold : every right further ≡ true
