@@ -28,7 +28,7 @@ use Rattle.runs.specs.Members.{All, In}
 use Rattle.runs.specs.ListIds.{RunOn, givenIds}
 use Rattle.runs.specs.ListPhis.{PhiPairs, phiIds}
 use Rattle.runs.specs.Demand3.{demand-3, never-stuck}
-use Rattle.flat.specs.Below.{idsIn}
+use Rattle.flat.specs.Below.{IdsBelow}
 use Rattle.flat.specs.Demand2.{list-below, list-ids, list-phis}
 use Rattle.emitter.specs.declared.Lifted.the-variants.{Whole}
 use Rattle.emitter.specs.Lift.{gives, outcome, refuses, told}
@@ -72,10 +72,10 @@ module _ (text func work out exit : List ℕ) (first n next : ℕ) where
         (list-ids text first (length func) (length work) (length out) (l .0) next (l .1))
 
     -- the next free id is 4,194,303 at most, and every id in the list lies below it (document 02, W3)
-    pub lifted-below : (next ≤ suc highestId) × All (λ i. All (λ x. x < next) (idsIn i)) (listFrom (take n exit))
+    pub lifted-below : (next ≤ suc highestId) × All (IdsBelow next) (listFrom (take n exit))
     lifted-below =
         let l = written-list in
-        subst (λ (ws : List ℕ). (next ≤ suc highestId) × All (λ i. All (λ x. x < next) (idsIn i)) (listFrom ws)) (sym (l .2))
+        subst (λ (ws : List ℕ). (next ≤ suc highestId) × All (IdsBelow next) (listFrom ws)) (sym (l .2))
         (list-below text first (length func) (length work) (length out) (l .0) next (l .1))
 
     -- phi j of block k: one pair for each block of the list whose way out names k, and no other, with that edge's value

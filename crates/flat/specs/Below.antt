@@ -13,23 +13,18 @@ use Rattle.lifting.specs.Points.{BlockLifting, CfgPoint, Merge, Table, Terminat
 use Rattle.lifting.specs.Order.{roots}
 use Rattle.lifting.specs.Walk.{Place, entryDecls, inBlock, inNode, top, walkOf, walkRoots}
 use Rattle.lifting.specs.Absorb.{countIn, kept}
-use Rattle.lifting.specs.Ids.{Name, eqName, idOf, labelOf, names, newId, nextId, numberIn, label, theFunction, value}
+use Rattle.lifting.specs.Ids.{Name, eqName, idOf, label, labelOf, names, newId, nextId, numberIn, theFunction, value}
 use Rattle.lifting.specs.Instructions.{Instruction, blockInsts, bodyInsts, functionInst, ifUsed, instructions, labelInst, listOf, mergeInsts, opInst, pairFrom, pairs, paramInst, paramInsts, phiInst, phiInsts, resultId, termInst}
 use Rattle.runs.specs.Members.{All, all-append, all-from, all-in}
-use Rattle.runs.specs.Tests.{all-at, all-line, all-part, all-split}
+use Rattle.runs.specs.Tests.{all-at, all-line, all-map, all-part, all-split, all-unmap}
 use Rattle.runs.specs.Each.{Each, each-kept, every-point}
 
 -- the ids that stand in an instruction: result type, result, operands; 0 stands for none
 abbrev pub idsIn : Instruction → List ℕ
 idsIn i = i .type ∷ i .result ∷ i .ids
 
-all-map : {A B : Type 0} (P : B → Type 0) (f : A → B) (l : List A) → ((x : A) → P (f x)) → All P (map f l)
-all-map P f [] h = tt
-all-map P f (x ∷ l) h = (h x, all-map P f l h)
-
-all-unmap : {A B : Type 0} (P : B → Type 0) (f : A → B) (l : List A) → All P (map f l) → All (λ x. P (f x)) l
-all-unmap P f [] h = tt
-all-unmap P f (x ∷ l) h = (h .0, all-unmap P f l (h .1))
+abbrev pub IdsBelow : ℕ → Instruction → Type 0
+IdsBelow n i = All (λ x. x < n) (idsIn i)
 
 number-below : (k : ℕ) (x : Name) (l : List Name) → 0 < k → numberIn k x l < k + length l
 number-below k x [] h = omega arith
@@ -38,6 +33,42 @@ number-below k x (y ∷ l) h = by-case (eqName x y) (number-below (suc k) x l (o
     by-case : (d : Dec (x ≡ y)) → numberIn (suc k) x l < suc k + length l → choose d k (numberIn (suc k) x l) < k + suc (length l)
     by-case (yes p) ih = omega arith
     by-case (no n) ih = omega arith
+
+-- the declarations of phis are the text's
+module _ (F : Func) (P : Decl → Type 0) (h : All P (decls F)) where
+  abbrev Declared : CfgPoint × BlockLifting → Type 0
+  Declared x = All P (x .1 .decls)
+
+  by-kind : All P (gather (λ r. r .ins) (F .regions)) × All P (gather outsOf (F .nodes))
+  unfolding decls
+  by-kind = all-split P (gather (λ r. r .ins) (F .regions)) _ h
+
+  of-region : (r : ℕ) → All P (regionOf F r .ins)
+  of-region r = all-line P (λ r. r .ins) (F .regions) (by-kind .0) _ refl r
+
+  at-entry : (r : ℕ) (p : Place) → All P (entryDecls F r p)
+  at-entry zero top = tt
+  at-entry (suc r) top = of-region (suc r)
+  at-entry zero (inNode n) = tt
+  at-entry (suc r) (inNode n) = tt
+
+  at-node : (d : Node) (n : ℕ) → All P (inBlock F d n .decls)
+  at-node (block is) n = tt
+  at-node (select k v cs ds) n = tt
+  at-node (loop b c is) n = of-region b
+  at-node (exit i vs) n = tt
+
+  walked : All Declared (walkOf F)
+  unfolding walkOf
+  walked = by-body (hasBody (F .regions))
+    where
+      by-body : (b : Bool) → All Declared (elim b [ true ↦ walkRoots F (suc (length (F .regions))) (roots F) | false ↦ [] ])
+      by-body true = every-point F Declared {R = λ r. Unit {0}} (λ r p t. at-entry r p) (λ r p. tt) (λ n. at-node (nodeOf F n) n)
+          (λ n q. all-line P outsOf (F .nodes) (by-kind .1) _ refl n) (suc (length (F .regions))) (roots F) (λ r i. tt)
+      by-body false = tt
+
+  kept-declared : Each (λ b. All P (b .decls)) (kept (walkOf F))
+  kept-declared = each-kept (λ b. All P (b .decls)) tt (λ b k. k) (λ b c k l. k) (walkOf F) walked
 
 module _ (F : Func) (first : ℕ) (positive : 0 < first) (under : All (λ x. x < first) (ids F)) where
   module _ (T K : Table) where
@@ -96,7 +127,7 @@ module _ (F : Func) (first : ℕ) (positive : 0 < first) (under : All (λ x. x <
 
     -- instruction by instruction
     abbrev LowIds : Instruction → Type 0
-    LowIds i = All Low (idsIn i)
+    LowIds = IdsBelow (nextId F first T K)
 
     pairs-low : (L : Table) (q : CfgPoint) (j : ℕ) → All Low (pairs F first T K L q j)
     unfolding pairs
@@ -163,43 +194,7 @@ module _ (F : Func) (first : ℕ) (positive : 0 < first) (under : All (λ x. x <
           (all-append LowIds (blockInsts F first T K K) _ (blocks-low K h) ((zero-low, (zero-low, tt)), tt)),
     )
 
-  -- the declarations of phis are the text's
-  module _ (P : Decl → Type 0) (h : All P (decls F)) where
-    abbrev Declared : CfgPoint × BlockLifting → Type 0
-    Declared x = All P (x .1 .decls)
-
-    by-kind : All P (gather (λ r. r .ins) (F .regions)) × All P (gather outsOf (F .nodes))
-    unfolding decls
-    by-kind = all-split P (gather (λ r. r .ins) (F .regions)) _ h
-
-    of-region : (r : ℕ) → All P (regionOf F r .ins)
-    of-region r = all-line P (λ r. r .ins) (F .regions) (by-kind .0) _ refl r
-
-    at-entry : (r : ℕ) (p : Place) → All P (entryDecls F r p)
-    at-entry zero top = tt
-    at-entry (suc r) top = of-region (suc r)
-    at-entry zero (inNode n) = tt
-    at-entry (suc r) (inNode n) = tt
-
-    at-node : (d : Node) (n : ℕ) → All P (inBlock F d n .decls)
-    at-node (block is) n = tt
-    at-node (select k v cs ds) n = tt
-    at-node (loop b c is) n = of-region b
-    at-node (exit i vs) n = tt
-
-    walked : All Declared (walkOf F)
-    unfolding walkOf
-    walked = by-body (hasBody (F .regions))
-      where
-        by-body : (b : Bool) → All Declared (elim b [ true ↦ walkRoots F (suc (length (F .regions))) (roots F) | false ↦ [] ])
-        by-body true = every-point F Declared {R = λ r. Unit {0}} (λ r p t. at-entry r p) (λ r p. tt) (λ n. at-node (nodeOf F n) n)
-            (λ n q. all-line P outsOf (F .nodes) (by-kind .1) _ refl n) (suc (length (F .regions))) (roots F) (λ r i. tt)
-        by-body false = tt
-
-    pub kept-declared : Each (λ b. All P (b .decls)) (kept (walkOf F))
-    kept-declared = each-kept (λ b. All P (b .decls)) tt (λ b k. k) (λ b c k l. k) (walkOf F) walked
-
   -- each id in each instruction of the list
-  pub list-low : All (λ i. All (λ x. x < nextId F first (walkOf F) (kept (walkOf F))) (idsIn i)) (listOf F first)
+  pub list-low : All (IdsBelow (nextId F first (walkOf F) (kept (walkOf F)))) (listOf F first)
   unfolding listOf
-  list-low = insts-low (walkOf F) (kept (walkOf F)) (kept-declared _ (given (walkOf F) (kept (walkOf F)) .decls))
+  list-low = insts-low (walkOf F) (kept (walkOf F)) (kept-declared F _ (given (walkOf F) (kept (walkOf F)) .decls))

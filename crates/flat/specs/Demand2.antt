@@ -29,7 +29,7 @@ use Rattle.runs.specs.ListIds.{RunOn, givenIds, ids-run-on}
 use Rattle.runs.specs.ListPhis.{PhiPairs, phiIds, phi-pairs-of}
 use Rattle.runs.specs.EveryText.{of-walk}
 use Rattle.runs.specs.Demand3.{accepted, fine, list-is, passed}
-use Rattle.flat.specs.Below.{idsIn, list-low}
+use Rattle.flat.specs.Below.{IdsBelow, list-low}
 use Rattle.flat.specs.Phis.{phi-keys-kept}
 use Rattle.flat.specs.NeverDecides.{by-count-alone, keptByCount}
 
@@ -84,13 +84,13 @@ list-ids text first func work out ws next ok =
 -- Document 02, W3: the highest id given is 4,194,302, so the next free id, a module's bound, is at most one more; every id in the list, the text's
 -- and new ones, lies below it.
 pub list-below : (text : List ℕ) (first func work out : ℕ) (ws : List ℕ) (next : ℕ) → answer text first func work out ≡ listed ws next
-    → (next ≤ suc highestId) × All (λ i. All (λ x. x < next) (idsIn i)) (listFrom ws)
+    → (next ≤ suc highestId) × All (IdsBelow next) (listFrom ws)
 list-below text first func work out ws next ok =
     let w = answer-passes text first func work out ws next ok in
     let F : Func = w .0 in
     let f = first-fits F first (w .1 .ids) in
     let low = list-low F first (f .positive) (f .under) in (
       subst (λ (n : ℕ). n ≤ suc highestId) (sym (w .1 .next-is)) (f .highest),
-      subst (λ (n : ℕ). All (λ i. All (λ x. x < n) (idsIn i)) (listFrom ws)) (sym (w .1 .next-is))
-          (subst (All (λ i. All (λ x. x < nextId F first (walkOf F) (kept (walkOf F))) (idsIn i))) (sym (list-is text first func work out ws next ok F (w .1 .text-is))) low),
+      subst (λ (n : ℕ). All (IdsBelow n) (listFrom ws)) (sym (w .1 .next-is))
+          (subst (All (IdsBelow (nextId F first (walkOf F) (kept (walkOf F))))) (sym (list-is text first func work out ws next ok F (w .1 .text-is))) low),
     )

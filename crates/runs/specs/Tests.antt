@@ -35,6 +35,15 @@ all-at P [] h d s n = s
 all-at P (x ∷ l) h d s zero = h .0
 all-at P (x ∷ l) h d s (suc n) = all-at P l (h .1) d s n
 
+-- of each image
+pub all-map : {A B : Type 0} (P : B → Type 0) (f : A → B) (l : List A) → ((x : A) → P (f x)) → All P (map f l)
+all-map P f [] h = tt
+all-map P f (x ∷ l) h = (h x, all-map P f l h)
+
+pub all-unmap : {A B : Type 0} (P : B → Type 0) (f : A → B) (l : List A) → All P (map f l) → All (λ x. P (f x)) l
+all-unmap P f [] h = tt
+all-unmap P f (x ∷ l) h = (h .0, all-unmap P f l (h .1))
+
 -- of all that is gathered: from its parts, and back to a part, to a line with a number, to an entry
 pub all-gather : {A B : Type 0} (P : B → Type 0) (f : A → List B) (l : List A) → ((x : A) → In x l → All P (f x)) → All P (gather f l)
 all-gather P f [] h = tt
