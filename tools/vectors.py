@@ -9,7 +9,7 @@ RESULTS = re.compile(rb'^\([0-9]+ [0-9]+ [0-9]+ ([0-9]+) ', re.MULTILINE)
 
 
 def answered(answer):
-    """An answer by document 01 alone, with the requests of document 02 that are in force."""
+    """What an answer by document 01 becomes by the requests of document 02 that are in force."""
     above = any(int(result) > HIGHEST_ID for result in RESULTS.findall(answer))
     return b'(refused 9)\n' if above else answer
 

@@ -1,22 +1,24 @@
 -- Document 02, W3: every id lies below the bound. No id that stands in the list is the next free id or above it: the text's ids are below the
 -- first id, and new ids run on to the next free id. Assumes nothing.
-use mathlib.Core.Path.{_≡_, refl}
+use mathlib.Core.Path.{refl}
+use mathlib.Core.Logic.{inl, inr}
 use mathlib.Core.List.{List, [], _∷_, _++_, map}
 use mathlib.Core.Bool.{Bool, true, false}
-use Prim.Native.Nat.{ℕ, zero, suc, _+_, _<_}
+use Prim.Native.Nat.{ℕ, zero, suc, _<_}
 use native.Mathlib.Omega.{arith}
 use lib.ListN.{getD, length}
-use Rattle.lifting.specs.Lists.{choose, gather}
+use Rattle.lifting.specs.Lists.{gather}
 use Rattle.lifting.specs.Ast.{Decl, Func, Node, Op, Value, block, const, dataInstOutput, exit, loop, nodeOutput, regionInput, select}
 use Rattle.lifting.specs.Parts.{calleeIds, decls, hasBody, ids, nodeOf, opOf, outsOf, regionOf, requiredIds}
 use Rattle.lifting.specs.Points.{BlockLifting, CfgPoint, Merge, Table, Terminator, edgeOf, loopMerge, noMerge, selectionMerge}
 use Rattle.lifting.specs.Order.{roots}
 use Rattle.lifting.specs.Walk.{Place, entryDecls, inBlock, inNode, top, walkOf, walkRoots}
 use Rattle.lifting.specs.Absorb.{countIn, kept}
-use Rattle.lifting.specs.Ids.{Name, eqName, idOf, label, labelOf, names, newId, nextId, numberIn, theFunction, value}
+use Rattle.lifting.specs.Ids.{Name, idOf, label, labelOf, names, newId, nextId, theFunction, value}
 use Rattle.lifting.specs.Instructions.{Instruction, blockInsts, bodyInsts, functionInst, ifUsed, instructions, labelInst, listOf, mergeInsts, opInst, pairFrom, pairs, paramInst, paramInsts, phiInst, phiInsts, resultId, termInst}
 use Rattle.runs.specs.Members.{All, all-append, all-from, all-in}
 use Rattle.runs.specs.Tests.{all-at, all-line, all-map, all-part, all-split, all-unmap}
+use Rattle.runs.specs.Ids.{number-range}
 use Rattle.runs.specs.Each.{Each, each-kept, every-point}
 
 -- the ids that stand in an instruction: result type, result, operands; 0 stands for none
@@ -25,14 +27,6 @@ idsIn i = i .type ∷ i .result ∷ i .ids
 
 abbrev pub IdsBelow : ℕ → Instruction → Type 0
 IdsBelow n i = All (λ x. x < n) (idsIn i)
-
-number-below : (k : ℕ) (x : Name) (l : List Name) → 0 < k → numberIn k x l < k + length l
-number-below k x [] h = omega arith
-number-below k x (y ∷ l) h = by-case (eqName x y) (number-below (suc k) x l (omega arith))
-  where
-    by-case : (d : Dec (x ≡ y)) → numberIn (suc k) x l < suc k + length l → choose d k (numberIn (suc k) x l) < k + suc (length l)
-    by-case (yes p) ih = omega arith
-    by-case (no n) ih = omega arith
 
 -- the declarations of phis are the text's
 module _ (F : Func) (P : Decl → Type 0) (h : All P (decls F)) where
@@ -85,7 +79,7 @@ module _ (F : Func) (first : ℕ) (positive : 0 < first) (under : All (λ x. x <
 
     new-low : (x : Name) → Low (newId F first T K x)
     unfolding nextId newId
-    new-low x = number-below first x (names F T K) positive
+    new-low x = elim (number-range first x (names F T K)) [ inl z ↦ omega (arith, z) | inr h ↦ h .1 ]
 
     -- the ids of the text, kind by kind
     record Given : Type 0 where

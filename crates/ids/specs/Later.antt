@@ -6,7 +6,7 @@
 --     bodied-stands, known-stands    what the reading of an id asks of a text follows from what the reader promises
 use mathlib.Core.Path.{_≡_, refl, sym, ap, subst, _∙_}
 use mathlib.Core.Bool.{true}
-use mathlib.Core.Logic.{inl}
+use mathlib.Core.Logic.{inl, inr}
 use mathlib.Core.List.{List, [], _∷_, _++_, map, append-assoc, append-nil}
 use Prim.Native.Nat.{ℕ, zero, suc, _+_, _≤_, _<_}
 use native.Mathlib.Decide.{ℕ-discrete}
@@ -14,7 +14,7 @@ use native.Mathlib.Omega.{arith}
 use lib.Dec.{eqb}
 use lib.ListN.{getD, length}
 use borrow.Author.Tests.{eqb-true}
-use Rattle.lifting.specs.Lists.{choose, choose-no, choose-yes, tabulate}
+use Rattle.lifting.specs.Lists.{choose-no, choose-yes, tabulate}
 use Rattle.lifting.specs.Ast.{ControlInst, Func, Region, Value, dataInstOutput, nodeOutput, regionInput}
 use Rattle.lifting.specs.Parts.{insKeys, nodeOf, outKeys, outsOf, regionOf}
 use Rattle.lifting.specs.References.{named}
@@ -26,6 +26,7 @@ use Rattle.lifting.specs.Ids.{Name, eqName, label, names, newId, newValues, num
 use Rattle.func.specs.Lists.{both, map-append}
 use Rattle.func.specs.Decode.{funcOf}
 use Rattle.func.specs.Tables.{Tables}
+use Rattle.runs.specs.Ids.{number-range}
 use Rattle.runs.specs.Members.{All, map-tabulate}
 use Rattle.control.specs.Tables.{split}
 use Rattle.flat.specs.Flat.{upTo}
@@ -230,17 +231,9 @@ module _ (F : Func) (ok : Bodied F) where
 
 -- ---- how high an id is
 
-number-high : (k : ℕ) (x : Name) (l : List Name) → numberIn k x l ≤ k + length l
-number-high k x [] = omega arith
-number-high k x (y ∷ l) = go (eqName x y) (number-high (suc k) x l)
-  where
-    go : (d : Dec (x ≡ y)) → numberIn (suc k) x l ≤ suc k + length l → choose d k (numberIn (suc k) x l) ≤ k + suc (length l)
-    go (yes e) h = omega arith
-    go (no n) h = omega arith
-
 pub id-low : (F : Func) (first : ℕ) (x : Name) → newIn F first x ≤ first + length (namesOf F)
 unfolding newId
-id-low F first x = number-high first x (namesOf F)
+id-low F first x = elim (number-range first x (namesOf F)) [ inl z ↦ omega (arith, z) | inr h ↦ omega (arith, h .1) ]
 
 -- ---- from the reader's promise
 

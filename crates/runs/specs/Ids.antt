@@ -4,7 +4,7 @@ use mathlib.Core.Logic.{_⊎_, inl, inr}
 use mathlib.Core.Bool.{Bool, not}
 use mathlib.Core.List.{List, [], _∷_, _++_, map}
 use mathlib.Core.Option.{Option, some}
-use Prim.Native.Nat.{ℕ, suc, _≤_, _<_}
+use Prim.Native.Nat.{ℕ, suc, _+_, _≤_, _<_}
 use native.Mathlib.Decide.{ℕ-discrete}
 use native.Mathlib.Omega.{arith}
 use lib.ListN.{length}
@@ -23,15 +23,16 @@ tail-of : {A : Type 0} {x y : A} {l : List A} → In x (y ∷ l) → ¬ (x ≡ y
 tail-of here n = absurd (n refl)
 tail-of (there h) n = h
 
--- a number in the list is 0 or not below its first one
-number-range : (k : ℕ) (x : Name) (l : List Name) → (numberIn k x l ≡ 0) ⊎ (k ≤ numberIn k x l)
+-- a name's number is 0 or one of those that the list's names have
+pub number-range : (k : ℕ) (x : Name) (l : List Name) → (numberIn k x l ≡ 0) ⊎ (k ≤ numberIn k x l) × (numberIn k x l < k + length l)
 number-range k x [] = inl refl
 number-range k x (y ∷ l) = by-case (eqName x y) (number-range (suc k) x l)
   where
-    by-case : (d : Dec (x ≡ y)) → (numberIn (suc k) x l ≡ 0) ⊎ (suc k ≤ numberIn (suc k) x l) → (choose d k (numberIn (suc k) x l) ≡ 0) ⊎ (k ≤ choose d k (numberIn (suc k) x l))
-    by-case (yes e) r = inr (omega arith)
+    by-case : (d : Dec (x ≡ y)) → (numberIn (suc k) x l ≡ 0) ⊎ (suc k ≤ numberIn (suc k) x l) × (numberIn (suc k) x l < suc k + length l)
+        → (choose d k (numberIn (suc k) x l) ≡ 0) ⊎ (k ≤ choose d k (numberIn (suc k) x l)) × (choose d k (numberIn (suc k) x l) < k + suc (length l))
+    by-case (yes e) r = inr (omega arith, omega arith)
     by-case (no n) (inl z) = inl z
-    by-case (no n) (inr h) = inr (omega arith)
+    by-case (no n) (inr h) = inr (omega (arith, h .0), omega (arith, h .1))
 
 pub number-low : (k : ℕ) (x : Name) (l : List Name) → In x l → k ≤ numberIn k x l
 number-low k x [] i = absurd (in-nil i)
@@ -45,9 +46,9 @@ number-inj : (l : List Name) (k : ℕ) (x y : Name) → 0 < k → In x l → num
 number-inj [] k x y p i e = absurd (in-nil i)
 number-inj (z ∷ l) k x y p i e = by-case (eqName x z) (eqName y z) (number-inj l (suc k) x y (omega arith)) e
   where
-    off : (numberIn (suc k) y l ≡ 0) ⊎ (suc k ≤ numberIn (suc k) y l) → k ≡ numberIn (suc k) y l → ⊥
+    off : (numberIn (suc k) y l ≡ 0) ⊎ (suc k ≤ numberIn (suc k) y l) × (numberIn (suc k) y l < suc k + length l) → k ≡ numberIn (suc k) y l → ⊥
     off (inl a) q = omega arith
-    off (inr a) q = omega arith
+    off (inr a) q = omega (arith, a .0)
 
     by-case : (d : Dec (x ≡ z)) (c : Dec (y ≡ z)) → (In x l → numberIn (suc k) x l ≡ numberIn (suc k) y l → x ≡ y)
         → choose d k (numberIn (suc k) x l) ≡ choose c k (numberIn (suc k) y l) → x ≡ y
