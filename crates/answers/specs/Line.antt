@@ -1,23 +1,23 @@
--- The line that is printed for an answer of the reader: the number that document 01 gives the refusal, or the word `accepted`. Assumes nothing.
-use mathlib.Core.List.{List, [], _∷_}
-use Prim.Native.Nat.{ℕ}
+-- The line that is printed for an answer of the reader: the refusal's number, or the word `accepted`. Assumes nothing.
+use mathlib.Core.List.{List, _++_}
+use Prim.Native.Nat.{ℕ, _≤_}
+use native.Mathlib.Omega.{arith}
+use lib.Dec.{lit≤}
+use lib.ListN.{length, length-append}
 use Rattle.lifting.specs.Bytes.{bytes}
-use Rattle.checks.specs.declared.Refusal.{Refusal}
-use Rattle.checks.specs.declared.Refusal.the-variants as refusal
+use Rattle.lifting.specs.Digits.{digits}
 use Rattle.checks.specs.declared.Parsed.{Parsed}
-use Rattle.checks.specs.declared.Parsed.the-variants as parsed
+use Rattle.checks.specs.declared.Parsed.the-variants.{Function, Refused}
+use Rattle.checks.specs.Test.{refusalNumber}
+use Rattle.printed.specs.Room.{digits-length}
 
--- the digits 1 to 8, which are bytes 49 to 56
-abbrev pub digitOf : Refusal → ℕ
-digitOf refusal.Long = 49
-digitOf refusal.Forms = 50
-digitOf refusal.Limits = 51
-digitOf refusal.References = 52
-digitOf refusal.Tree = 53
-digitOf refusal.Counts = 54
-digitOf refusal.Control = 55
-digitOf refusal.Scratch = 56
+unfoldable pub lineOf : Parsed → List ℕ
+unfolding digits
+lineOf Function = bytes "accepted\n"
+lineOf (Refused r) = digits (refusalNumber r) ++ bytes "\n"
 
-abbrev pub lineOf : Parsed → List ℕ
-lineOf parsed.Function = bytes "accepted\n"
-lineOf (parsed.Refused r) = digitOf r ∷ 10 ∷ []
+-- ten digits and byte 10 at most
+pub line-room : (p : Parsed) → length (lineOf p) ≤ 11
+unfolding lineOf
+line-room Function = lit≤ tt
+line-room (Refused r) = omega (arith, length-append (digits (refusalNumber r)) (bytes "\n"), digits-length (refusalNumber r))

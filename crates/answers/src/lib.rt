@@ -1,25 +1,22 @@
 // What the programs over the reader share: the line for an answer, and the cutting of a batch into texts. A text longer than the room for it
 // keeps its first bytes: more than 32,768 of them are refused whatever follows.
 use checks::Parsed;
-use checks::Refusal;
+use checks::number;
+use printed::append::put_byte;
+use printed::append::put_bytes;
+use printed::append::put_number;
 ghost use mathlib.Core.Path.{_≡_};
 ghost use Prim.Native.Nat.{_+_, _-_, _≤_, _<_, min};
 ghost use lib.ListN.{length, take, drop};
 ghost use lib.Seq.{paste};
-ghost use Rattle.io.specs.Counts.{Counts};
 ghost use Rattle.lifting.specs.Answer.{parse};
 ghost use Rattle.reader.specs.Parse.{funcAfter, workAfter};
-ghost use Rattle.answers.specs.Line.{digitOf, lineOf};
+ghost use Rattle.printed.specs.Put.{Put};
+ghost use Rattle.answers.specs.Line.{lineOf};
 ghost use Rattle.answers.specs.Batch.{percentAfter, matchedAfter, cutOf, fitting};
 
 // The bytes of a line `%%`.
 const MARK: usize = 3;
-
-// The first `len` of the bytes.
-pub struct Printed {
-    pub bytes: [u8; 9],
-    pub len: usize,
-}
 
 // Where the bytes of a text end that were read, and how many bytes of "\n%%\n" they end with.
 pub struct Place {
@@ -27,34 +24,16 @@ pub struct Place {
     pub matched: u32,
 }
 
-fn digit(r: Refusal) -> u8
-    ensures { λ d. ⌜ d ≡ digitOf r ⌝ }
-{
-    match r {
-        Refusal::Long => b'1',
-        Refusal::Forms => b'2',
-        Refusal::Limits => b'3',
-        Refusal::References => b'4',
-        Refusal::Tree => b'5',
-        Refusal::Counts => b'6',
-        Refusal::Control => b'7',
-        Refusal::Scratch => b'8',
-    }
-}
-
-pub fn line(parsed: Parsed) -> Printed
-    ensures { λ r. ⌜ take (r .len) (r .bytes) ≡ lineOf parsed ⌝ }
-    ensures { λ r. ⌜ (9 ≡ length (r .bytes)) × Counts (r .len) (r .bytes) ⌝ }
+// The bytes of the line for an answer stand in `bytes`: how many.
+fn put_line(bytes: &mut [u8], parsed: Parsed) -> usize
+    ensures { λ n. ⌜ Put (now (bytes .entry)) 0 (lineOf parsed) (now (bytes .exit)) n ⌝ }
 {
     match parsed {
-        Parsed::Function => Printed {
-            bytes: [b'a', b'c', b'c', b'e', b'p', b't', b'e', b'd', b'\n'],
-            len: 9,
-        },
-        Parsed::Refused(r) => Printed {
-            bytes: [digit(r), b'\n', 0, 0, 0, 0, 0, 0, 0],
-            len: 2,
-        },
+        Parsed::Function => put_bytes(bytes, 0, b"accepted\n"),
+        Parsed::Refused(r) => {
+            let n = put_number(bytes, 0, number(r));
+            put_byte(bytes, n, b'\n')
+        }
     }
 }
 
@@ -63,9 +42,8 @@ pub fn tell(text: &[u8], func: &mut [u32], work: &mut [u32])
     ensures func_slice { λ _. ⌜ now (func .exit) ≡ funcAfter (parse (now (text .entry)) (length (now (func .entry))) (length (now (work .entry)))) (now (func .entry)) ⌝ }
     ensures work_slice { λ _. ⌜ now (work .exit) ≡ workAfter (parse (now (text .entry)) (length (now (func .entry))) (length (now (work .entry)))) (now (work .entry)) ⌝ }
 {
-    let l = line(reader::parse(text, func, work));
-    let n = l.len;
-    let bytes = l.bytes;
+    let mut bytes = [0u8; 11];
+    let n = put_line(&mut bytes, reader::parse(text, func, work));
     io::write_all(1, &bytes[..n]);
 }
 

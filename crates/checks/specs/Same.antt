@@ -1,4 +1,4 @@
--- The tests of the words are document 01's refusals 3 to 7, for every text. Assumes nothing.
+-- The tests of the words are document 01's refusals 3 to 7 and document 02's 13, for every text. Assumes nothing.
 --     checks-safe     the code stays within the slice
 --     checks-same     what it computes, with what the reader judged of ctrl lines, is the first refusal
 --     passes, back    a text without a refusal passes each, and stands in the slice whole
@@ -16,7 +16,7 @@ use Rattle.lifting.specs.Limits.{maxRegions, maxTargets, withinLimits}
 use Rattle.lifting.specs.References.{referencesHold}
 use Rattle.lifting.specs.Tree.{isTree}
 use Rattle.lifting.specs.Counts.{edgesFit, countsAgree}
-use Rattle.lifting.specs.Control.{controlFits}
+use Rattle.lifting.specs.Control.{controlFits, targetsDiffer}
 use Rattle.lifting.specs.Answer as answer
 use Rattle.lifting.specs.Answer.{parsed, denied, checked}
 use Rattle.func.specs.Lists.{both}
@@ -47,40 +47,44 @@ verdict Function F = parsed F
 verdict (Refused x) F = denied (refusalNumber x)
 
 -- the definition, in the same form
-checked-is : (F : Func) → checked F ≡ verdict (judge (withinLimits F) (referencesHold F) (isTree F) (countsAgree F) (controlFits F)) F
+checked-is : (F : Func) → checked F ≡ verdict (judge (withinLimits F) (referencesHold F) (isTree F) (countsAgree F) (controlFits F) (targetsDiffer F)) F
 unfolding checked
-checked-is F = go (withinLimits F) (referencesHold F) (isTree F) (countsAgree F) (controlFits F)
+checked-is F = go (withinLimits F) (referencesHold F) (isTree F) (countsAgree F) (controlFits F) (targetsDiffer F)
   where
-    go : (a b c d e : Bool)
+    go : (a b c d e f : Bool)
         → _≡_ {A = answer.Parsed} (elim a [
           | false ↦ denied 3
           | true ↦ elim b [
             | false ↦ denied 4
-            | true ↦ elim c [ false ↦ denied 5 | true ↦ elim d [ false ↦ denied 6 | true ↦ elim e [ false ↦ denied 7 | true ↦ parsed F ] ] ]
+            | true ↦ elim c [ false ↦ denied 5 | true ↦ elim d [ false ↦ denied 6 | true ↦ elim e [ false ↦ denied 7 | true ↦ elim f [ false ↦ denied 13 | true ↦ parsed F ] ] ] ]
           ]
-        ]) (verdict (judge a b c d e) F)
-    go false b c d e = refl
-    go true false c d e = refl
-    go true true false d e = refl
-    go true true true false e = refl
-    go true true true true false = refl
-    go true true true true true = refl
+        ]) (verdict (judge a b c d e f) F)
+    go false b c d e f = refl
+    go true false c d e f = refl
+    go true true false d e f = refl
+    go true true true false e f = refl
+    go true true true true false f = refl
+    go true true true true true false = refl
+    go true true true true true true = refl
 
 -- two nests of tests are the same where each test is, once those before it were passed
-same : (a b c d e : Bool) {p q r s t : Bool} → p ≡ a → (a ≡ true → q ≡ b) → (a ≡ true → b ≡ true → r ≡ c) → (a ≡ true → b ≡ true → c ≡ true → s ≡ d)
-    → (a ≡ true → b ≡ true → c ≡ true → t ≡ e) → judge p q r s t ≡ judge a b c d e
-same false b c d e {q = q} {r = r} {s = s} {t = t} l f g h k = ap (λ (x : Bool). judge x q r s t) l
-same true false c d e {r = r} {s = s} {t = t} l f g h k = λ i. judge (l i) (f refl i) r s t
-same true true false d e {s = s} {t = t} l f g h k = λ i. judge (l i) (f refl i) (g refl refl i) s t
-same true true true d e l f g h k = λ i. judge (l i) (f refl i) (g refl refl i) (h refl refl refl i) (k refl refl refl i)
+same : (a b c d e f : Bool) {p q r s t u : Bool} → p ≡ a → (a ≡ true → q ≡ b) → (a ≡ true → b ≡ true → r ≡ c) → (a ≡ true → b ≡ true → c ≡ true → s ≡ d)
+    → (a ≡ true → b ≡ true → c ≡ true → t ≡ e) → (a ≡ true → b ≡ true → c ≡ true → e ≡ true → u ≡ f) → judge p q r s t u ≡ judge a b c d e f
+same false b c d e f {q = q} {r = r} {s = s} {t = t} {u = u} l m g h k n = ap (λ (x : Bool). judge x q r s t u) l
+same true false c d e f {r = r} {s = s} {t = t} {u = u} l m g h k n = λ i. judge (l i) (m refl i) r s t u
+same true true false d e f {s = s} {t = t} {u = u} l m g h k n = λ i. judge (l i) (m refl i) (g refl refl i) s t u
+same true true true false e f {t = t} {u = u} l m g h k n = λ i. judge (l i) (m refl i) (g refl refl i) (h refl refl refl i) t u
+same true true true true false f {u = u} l m g h k n = λ i. judge (l i) (m refl i) (g refl refl i) (h refl refl refl i) (k refl refl refl i) u
+same true true true true true f l m g h k n = λ i. judge (l i) (m refl i) (g refl refl i) (h refl refl refl i) (k refl refl refl i) (n refl refl refl refl i)
 
--- a text that passes 3 to 7
+-- a text that passes 3 to 7 and 13
 pub record Passes (F : Func) : Type 0 where
   pub limits : withinLimits F ≡ true
   pub references : referencesHold F ≡ true
   pub tree : isTree F ≡ true
   pub counts : countsAgree F ≡ true
   pub control : controlFits F ≡ true
+  pub differ : targetsDiffer F ≡ true
 
 -- what is parsed is the text's own function, and it passes
 abbrev functionOr : Func → answer.Parsed → Func
@@ -88,16 +92,17 @@ functionOr d (parsed F) = F
 functionOr d (denied n) = d
 
 pub passes : (G F : Func) → checked G ≡ parsed F → (G ≡ F) × Passes G
-passes G F e = go (withinLimits G) (referencesHold G) (isTree G) (countsAgree G) (controlFits G) refl refl refl refl refl (sym (checked-is G) ∙ e)
+passes G F e = go (withinLimits G) (referencesHold G) (isTree G) (countsAgree G) (controlFits G) (targetsDiffer G) refl refl refl refl refl refl (sym (checked-is G) ∙ e)
   where
-    go : (a b c d e : Bool) → withinLimits G ≡ a → referencesHold G ≡ b → isTree G ≡ c → countsAgree G ≡ d → controlFits G ≡ e → verdict (judge a b c d e) G ≡ parsed F
+    go : (a b c d e f : Bool) → withinLimits G ≡ a → referencesHold G ≡ b → isTree G ≡ c → countsAgree G ≡ d → controlFits G ≡ e → targetsDiffer G ≡ f → verdict (judge a b c d e f) G ≡ parsed F
         → (G ≡ F) × Passes G
-    go false b c d e l f g h k q = absurd (let z : _≡_ {A = ℕ} 0 1 = cc in omega arith)
-    go true false c d e l f g h k q = absurd (let z : _≡_ {A = ℕ} 0 1 = cc in omega arith)
-    go true true false d e l f g h k q = absurd (let z : _≡_ {A = ℕ} 0 1 = cc in omega arith)
-    go true true true false e l f g h k q = absurd (let z : _≡_ {A = ℕ} 0 1 = cc in omega arith)
-    go true true true true false l f g h k q = absurd (let z : _≡_ {A = ℕ} 0 1 = cc in omega arith)
-    go true true true true true l f g h k q = (ap (functionOr G) q, record { limits = l; references = f; tree = g; counts = h; control = k })
+    go false b c d e f l m g h k n q = absurd (let z : _≡_ {A = ℕ} 0 1 = cc in omega arith)
+    go true false c d e f l m g h k n q = absurd (let z : _≡_ {A = ℕ} 0 1 = cc in omega arith)
+    go true true false d e f l m g h k n q = absurd (let z : _≡_ {A = ℕ} 0 1 = cc in omega arith)
+    go true true true false e f l m g h k n q = absurd (let z : _≡_ {A = ℕ} 0 1 = cc in omega arith)
+    go true true true true false f l m g h k n q = absurd (let z : _≡_ {A = ℕ} 0 1 = cc in omega arith)
+    go true true true true true false l m g h k n q = absurd (let z : _≡_ {A = ℕ} 0 1 = cc in omega arith)
+    go true true true true true true l m g h k n q = (ap (functionOr G) q, record { limits = l; references = m; tree = g; counts = h; control = k; differ = n })
 
 -- the counts of ctrl lines and entries stop only above their bounds
 few-forth : {F : Func} {w : List ℕ} → Stored F w → fewTest w ≡ true → Few F
@@ -139,6 +144,9 @@ module _ (F : Func) {z : List ℕ} (clear : Clear z) (limits : withinLimits F �
       go false false e f = sym f
       go false true e f = absurd (false≢true (sym e ∙ few-back (stored-func F clear) (few-control F limits references f)))
 
+  targets-are : controlFits F ≡ true → targetsDiffer (funcOf (keepFunc F z)) ≡ targetsDiffer F
+  targets-are control = ap targetsDiffer (func-is (few-control F limits references control))
+
 module _ (F : Func) {z : List ℕ} (clear : Clear z) (opcodes : Bool) (fit : opcodes ≡ every (λ i. opcodeFits (i .opcode)) (gather (λ c. ctrlInsts (c .1 .kind)) (F .ctrls))) where
   -- each test is the refusal's, where those before it were passed
   limits-are : limitsTest (keepFunc F z) ≡ withinLimits F
@@ -163,12 +171,13 @@ module _ (F : Func) {z : List ℕ} (clear : Clear z) (opcodes : Bool) (fit : opc
   unfolding checksTest
   checks-same edges e =
       ap (λ (x : Parsed). verdict x F)
-      (same (withinLimits F) (referencesHold F) (isTree F) (countsAgree F) (controlFits F)
+      (same (withinLimits F) (referencesHold F) (isTree F) (countsAgree F) (controlFits F) (targetsDiffer F)
       limits-are
       references-are
       tree-is
       (λ l h t. counts-test F (keepFunc F z) edges (stored-func F clear) l h t (e l))
-      (control-is F clear))
+      (control-is F clear)
+      (targets-are F clear))
       ∙ sym (checked-is F)
 
 -- a text that passes stands in these words: all that their readers ask

@@ -1,7 +1,7 @@
--- Refusals 3 to 7 in their order, as tests of the function slice's words: what the code computes. specs/Same says that it is the definition.
+-- Refusals 3 to 7 and 13 in their order, as tests of the function slice's words: what the code computes. specs/Same says that it is the definition.
 -- Assumes nothing.
 --     refusalNumber      document 01's numbers
---     checksTest         the first refusal of 3 to 7
+--     checksTest         the first refusal of 3 to 7 and 13
 --     ChecksSafe         what the code needs to stay within the slice
 use mathlib.Core.Path.{_≡_}
 use mathlib.Core.Bool.{Bool, true, false, _&&_}
@@ -10,7 +10,7 @@ use Prim.Native.Nat.{ℕ, _≤_}
 use lib.Dec.{leb}
 use lib.ListN.{length}
 use Rattle.lifting.specs.Limits.{scratchWords, maxRegions, maxTargets}
-use Rattle.lifting.specs.Control.{controlFits}
+use Rattle.lifting.specs.Control.{controlFits, targetsDiffer}
 use Rattle.func.specs.Layout.{entries, ctrls}
 use Rattle.func.specs.Store.{count}
 use Rattle.func.specs.Decode.{funcOf}
@@ -20,7 +20,7 @@ use Rattle.tree.specs.Test.{treeTest, TreeSafe}
 use Rattle.counts.specs.Test.{countsTest, CountsSafe}
 use Rattle.control.specs.Tables.{Named}
 use Rattle.checks.specs.declared.Refusal.{Refusal}
-use Rattle.checks.specs.declared.Refusal.the-variants.{Long, Forms, Limits, References, Tree, Counts, Control, Scratch}
+use Rattle.checks.specs.declared.Refusal.the-variants.{Long, Forms, Limits, References, Tree, Counts, Control, Scratch, Targets}
 use Rattle.checks.specs.declared.Parsed.{Parsed}
 use Rattle.checks.specs.declared.Parsed.the-variants.{Function, Refused}
 
@@ -33,15 +33,17 @@ refusalNumber Tree = 5
 refusalNumber Counts = 6
 refusalNumber Control = 7
 refusalNumber Scratch = 8
+refusalNumber Targets = 13
 
--- the first of the tests of 3 to 7 that is not passed
-abbrev pub judge : Bool → Bool → Bool → Bool → Bool → Parsed
-judge false references tree counts control = Refused Limits
-judge true false tree counts control = Refused References
-judge true true false counts control = Refused Tree
-judge true true true false control = Refused Counts
-judge true true true true false = Refused Control
-judge true true true true true = Function
+-- the first of the tests of 3 to 7 and 13 that is not passed
+abbrev pub judge : Bool → Bool → Bool → Bool → Bool → Bool → Parsed
+judge false references tree counts control differ = Refused Limits
+judge true false tree counts control differ = Refused References
+judge true true false counts control differ = Refused Tree
+judge true true true false control differ = Refused Counts
+judge true true true true false differ = Refused Control
+judge true true true true true false = Refused Targets
+judge true true true true true true = Function
 
 -- there is room for all ctrl lines and entries
 unfoldable pub fewTest : List ℕ → Bool
@@ -49,9 +51,9 @@ fewTest w = leb (count ctrls w) maxRegions && leb (count entries w) maxTargets
 
 -- `opcodes` and `edges` are what the reader judged of ctrl lines. Only few of them stand in the slice whole, and of more refusal 7 holds.
 unfoldable pub checksTest : List ℕ → Bool → Bool → Parsed
-unfolding limitsTest referencesTest treeTest countsTest controlFits funcOf
+unfolding limitsTest referencesTest treeTest countsTest controlFits targetsDiffer funcOf
 checksTest w opcodes edges =
-    judge (limitsTest w) (referencesTest w && opcodes) (treeTest w) (countsTest w && edges) (fewTest w && controlFits (funcOf w))
+    judge (limitsTest w) (referencesTest w && opcodes) (treeTest w) (countsTest w && edges) (fewTest w && controlFits (funcOf w)) (targetsDiffer (funcOf w))
 
 -- each test is safe where those before it were passed
 pub record ChecksSafe (w : List ℕ) (opcodes : Bool) : Type 0 where

@@ -1,6 +1,7 @@
-// Refusals 3 to 7, in their order, of the text that stands in the function slice. Each test may look only at what those before it have shown
+// Refusals 3 to 7 and 13, in their order, of the text that stands in the function slice. Each test may look only at what those before it have shown
 // to be there.
 use control::control;
+use control::targets_differ;
 use counts::counts;
 use func::CTRLS;
 use func::ENTRIES;
@@ -15,7 +16,7 @@ ghost use lib.ListN.{length};
 ghost use Rattle.lifting.specs.Limits.{scratchWords};
 ghost use Rattle.checks.specs.Test.{refusalNumber, fewTest, checksTest, ChecksSafe};
 
-// Document 01's refusals 1 to 8.
+// Document 01's refusals 1 to 8, and 13.
 pub enum Refusal {
     // a text over 32,768 bytes
     Long,
@@ -33,6 +34,8 @@ pub enum Refusal {
     Control,
     // a scratch slice that is too short
     Scratch,
+    // a branch by `bool` to one region twice
+    Targets,
 }
 
 // The function stands in the function slice, or a refusal.
@@ -54,6 +57,7 @@ pub fn number(r: Refusal) -> u32
         Refusal::Counts => 6,
         Refusal::Control => 7,
         Refusal::Scratch => 8,
+        Refusal::Targets => 13,
     }
 }
 
@@ -65,7 +69,7 @@ fn few(func: &[u32]) -> bool
     both(count(func, CTRLS) <= 128, count(func, ENTRIES) <= 512)
 }
 
-// The first refusal of 3 to 7, if there is one. `opcodes` and `edges` say whether the opcodes and the edges of ctrl lines fit, for 4 and 6: the
+// The first refusal of 3 to 7 and 13, if there is one. `opcodes` and `edges` say whether the opcodes and the edges of ctrl lines fit, for 4 and 6: the
 // reader judges these, since there may be more lines than the slice has room for.
 pub fn checks(func: &[u32], work: &mut [u32], opcodes: bool, edges: bool) -> Parsed
     requires { ⌜ ChecksSafe (now func) opcodes ⌝ }
@@ -90,6 +94,9 @@ pub fn checks(func: &[u32], work: &mut [u32], opcodes: bool, edges: bool) -> Par
     }
     if !control(func, work) {
         return Parsed::Refused(Refusal::Control);
+    }
+    if !targets_differ(func) {
+        return Parsed::Refused(Refusal::Targets);
     }
     Parsed::Function
 }

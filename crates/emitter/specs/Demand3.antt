@@ -1,6 +1,6 @@
 -- Demands 2 and 3 about the words that stand in the output slice after an accepted call: running the regions of the text and running the blocks of
 -- that list are alike in every world, and neither run is ever stuck; the list gives each new id once, and every id in it is below the next free one;
--- each phi has one pair for each block whose way out names its block. The hypotheses are what `lift_function` promises, that it told a word count, and
+-- each phi has one pair for each block whose way out names its block; the two labels of a 250 differ. The hypotheses are what `lift_function` promises, that it told a word count, and
 -- for the runs that the text has a body. Assumes nothing.
 use mathlib.Core.Path.{_≡_, refl, sym, ap, subst, _∙_}
 use mathlib.Core.Bool.{true}
@@ -29,7 +29,8 @@ use Rattle.runs.specs.ListIds.{RunOn, givenIds}
 use Rattle.runs.specs.ListPhis.{PhiPairs, phiIds}
 use Rattle.runs.specs.Demand3.{demand-3, never-stuck}
 use Rattle.flat.specs.Below.{IdsBelow}
-use Rattle.flat.specs.Demand2.{list-below, list-ids, list-phis}
+use Rattle.flat.specs.Labels.{LabelsDiffer}
+use Rattle.flat.specs.Demand2.{list-below, list-ids, list-labels, list-phis}
 use Rattle.emitter.specs.declared.Lifted.the-variants.{Whole}
 use Rattle.emitter.specs.Lift.{gives, outcome, refuses, told}
 
@@ -77,6 +78,12 @@ module _ (text func work out exit : List ℕ) (first n next : ℕ) where
         let l = written-list in
         subst (λ (ws : List ℕ). (next ≤ suc highestId) × All (IdsBelow next) (listFrom ws)) (sym (l .2))
         (list-below text first (length func) (length work) (length out) (l .0) next (l .1))
+
+    -- no conditional branch of the list names one label twice (document 02, W7)
+    pub lifted-labels : All LabelsDiffer (listFrom (take n exit))
+    lifted-labels =
+        let l = written-list in
+        subst (λ (ws : List ℕ). All LabelsDiffer (listFrom ws)) (sym (l .2)) (list-labels text first (length func) (length work) (length out) (l .0) next (l .1))
 
     -- phi j of block k: one pair for each block of the list whose way out names k, and no other, with that edge's value
     pub lifted-phis : (F : Func) → read text ≡ some F → (k : ℕ) (body : List Instruction) → In (k, body) (parts (listFrom (take n exit)) .blocks)

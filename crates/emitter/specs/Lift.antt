@@ -2,7 +2,7 @@
 --     answerTo                      the answer to a text, a first id and three lent slices
 --     causeNumber, told, outcome    the number of each refusal; what is told: the word count and the next free id, or a refusal's number
 --     wanted, Wants                 the count of words of the text's list, which refusal 11 tells
---     early, tabled                 a refusal of 8 and 1 to 7, and what a function in its tables is lifted to
+--     early, tabled                 a refusal of 8, 1 to 7 and 13, and what a function in its tables is lifted to
 --     scratch-tables                both scratch slices end as zeros once the text is read
 --     by-ids, by-values, by-room, by-list    refusals 9 to 11 and the list
 use mathlib.Core.Path.{_≡_, refl, sym, ap, _∙_}

@@ -3,7 +3,7 @@
 use mathlib.Core.Path.{_≡_, refl, ap}
 use mathlib.Core.Bool.{Bool, true, false}
 use mathlib.Core.List.{List}
-use Prim.Native.Nat.{ℕ, _≤_, _<_}
+use Prim.Native.Nat.{ℕ, _≤_}
 use native.Mathlib.Omega.{arith}
 use lib.Dec.{leb}
 use lib.ListN.{length}
@@ -15,22 +15,22 @@ use Rattle.lifting.specs.Ids.{nextId}
 use Rattle.lifting.specs.Instructions.{listOf}
 use Rattle.lifting.specs.Words.{words}
 use Rattle.lifting.specs.Answer.{Answer, Parsed, answer, denied, idsFit, lifted, listed, parse, parsed, refused, valuesSet, written}
-use Rattle.sizes.specs.Parsing.{by-parse}
+use Rattle.sizes.specs.Parsing.{Denial, by-parse, denial-other}
 use Rattle.emitter.specs.Lift.{wanted, wantedBy}
 
--- a text is denied by 8 and 1 to 7 alone, so 11 is no denial
-abbrev Low : Parsed → Type 0
-Low (parsed F) = Unit {0}
-Low (denied n) = n < 9
+-- what parsing denies, it does not deny by 11
+abbrev Denied : Parsed → Type 0
+Denied (parsed F) = Unit {0}
+Denied (denied n) = Denial n
 
-denied-low : (text : List ℕ) (func work : ℕ) → Low (parse text func work)
-denied-low = by-parse Low (λ n h. h) (λ F limits references tree counts control. tt)
+parse-denied : (text : List ℕ) (func work : ℕ) → Denied (parse text func work)
+parse-denied = by-parse Denied (λ n h. h) (λ F limits references tree counts control differ. tt)
 
-enough : (p : Parsed) → Low p → (first out : ℕ) → lifted p first out ≡ refused 11 → (k : ℕ) → wantedBy p first ≤ k
+enough : (p : Parsed) → Denied p → (first out : ℕ) → lifted p first out ≡ refused 11 → (k : ℕ) → wantedBy p first ≤ k
     → (ws : List ℕ) × (n : ℕ) × (lifted p first k ≡ listed ws n) × (length ws ≡ wantedBy p first)
 unfolding lifted written
-enough (denied n) low first out e k h = absurd (let z : n ≡ 11 = cc in omega arith)
-enough (parsed F) low first out e k h = go (idsFit F first) (valuesSet F) e
+enough (denied n) d first out e k h = absurd (denial-other n d cc)
+enough (parsed F) d first out e k h = go (idsFit F first) (valuesSet F) e
   where
     L : List ℕ
     L = words (listOf F first)
@@ -50,4 +50,4 @@ enough (parsed F) low first out e k h = go (idsFit F first) (valuesSet F) e
 pub wanted-enough : (text : List ℕ) (first func work out : ℕ) → answer text first func work out ≡ refused 11 → (k : ℕ) → wanted text first func work ≤ k
     → (ws : List ℕ) × (n : ℕ) × (answer text first func work k ≡ listed ws n) × (length ws ≡ wanted text first func work)
 unfolding answer wanted
-wanted-enough text first func work out e k h = enough (parse text func work) (denied-low text func work) first out e k h
+wanted-enough text first func work out e k h = enough (parse text func work) (parse-denied text func work) first out e k h

@@ -131,7 +131,7 @@ fn from_tables(first: u32, func: &mut [u32], work: &mut [u32], out: &mut [u32]) 
 }
 
 // The list of the text stands in the output slice, and its count of words and the next free id are given; or the first refusal that holds, in the
-// order 8, 1 to 7, 9, 10, 11. Output beyond the list, and all of it after a refusal, keeps its words; both scratch slices end as zeros, except after 8.
+// order 8, 1 to 7, 13, 9, 10, 11. Output beyond the list, and all of it after a refusal, keeps its words; both scratch slices end as zeros, except after 8.
 // Refusal 11 tells how many words the list has.
 pub fn lift_function(
     text: &[u8],

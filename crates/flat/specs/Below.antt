@@ -2,24 +2,23 @@
 -- first id, and new ids run on to the next free id. Assumes nothing.
 use mathlib.Core.Path.{refl}
 use mathlib.Core.Logic.{inl, inr}
-use mathlib.Core.List.{List, [], _∷_, _++_, map}
-use mathlib.Core.Bool.{Bool, true, false}
+use mathlib.Core.List.{List, [], _∷_, map}
 use Prim.Native.Nat.{ℕ, zero, suc, _<_}
 use native.Mathlib.Omega.{arith}
-use lib.ListN.{getD, length}
+use lib.ListN.{getD}
 use Rattle.lifting.specs.Lists.{gather}
 use Rattle.lifting.specs.Ast.{Decl, Func, Node, Op, Value, block, const, dataInstOutput, exit, loop, nodeOutput, regionInput, select}
-use Rattle.lifting.specs.Parts.{calleeIds, decls, hasBody, ids, nodeOf, opOf, outsOf, regionOf, requiredIds}
+use Rattle.lifting.specs.Parts.{calleeIds, decls, ids, nodeOf, opOf, outsOf, regionOf, requiredIds}
 use Rattle.lifting.specs.Points.{BlockLifting, CfgPoint, Merge, Table, Terminator, edgeOf, loopMerge, noMerge, selectionMerge}
-use Rattle.lifting.specs.Order.{roots}
-use Rattle.lifting.specs.Walk.{Place, entryDecls, inBlock, inNode, top, walkOf, walkRoots}
+use Rattle.lifting.specs.Walk.{Place, entryDecls, inBlock, inNode, top, walkOf}
 use Rattle.lifting.specs.Absorb.{countIn, kept}
 use Rattle.lifting.specs.Ids.{Name, idOf, label, labelOf, names, newId, nextId, theFunction, value}
 use Rattle.lifting.specs.Instructions.{Instruction, blockInsts, bodyInsts, functionInst, ifUsed, instructions, labelInst, listOf, mergeInsts, opInst, pairFrom, pairs, paramInst, paramInsts, phiInst, phiInsts, resultId, termInst}
 use Rattle.runs.specs.Members.{All, all-append, all-from, all-in}
 use Rattle.runs.specs.Tests.{all-at, all-line, all-map, all-part, all-split, all-unmap}
 use Rattle.runs.specs.Ids.{number-range}
-use Rattle.runs.specs.Each.{Each, each-kept, every-point}
+use Rattle.runs.specs.Each.{Each, each-kept, every-walked}
+use Rattle.runs.specs.Listing.{all-blocks, all-body, all-list}
 
 -- the ids that stand in an instruction: result type, result, operands; 0 stands for none
 abbrev pub idsIn : Instruction → List ℕ
@@ -53,13 +52,8 @@ module _ (F : Func) (P : Decl → Type 0) (h : All P (decls F)) where
   at-node (exit i vs) n = tt
 
   walked : All Declared (walkOf F)
-  unfolding walkOf
-  walked = by-body (hasBody (F .regions))
-    where
-      by-body : (b : Bool) → All Declared (elim b [ true ↦ walkRoots F (suc (length (F .regions))) (roots F) | false ↦ [] ])
-      by-body true = every-point F Declared {R = λ r. Unit {0}} (λ r p t. at-entry r p) (λ r p. tt) (λ n. at-node (nodeOf F n) n)
-          (λ n q. all-line P outsOf (F .nodes) (by-kind .1) _ refl n) (suc (length (F .regions))) (roots F) (λ r i. tt)
-      by-body false = tt
+  walked = every-walked F Declared {R = λ r. Unit {0}} (λ r p t. at-entry r p) (λ r p. tt) (λ n. at-node (nodeOf F n) n)
+      (λ n q. all-line P outsOf (F .nodes) (by-kind .1) _ refl n) (λ r i. tt)
 
   kept-declared : Each (λ b. All P (b .decls)) (kept (walkOf F))
   kept-declared = each-kept (λ b. All P (b .decls)) tt (λ b k. k) (λ b c k l. k) (walkOf F) walked
@@ -163,17 +157,16 @@ module _ (F : Func) (first : ℕ) (positive : 0 < first) (under : All (λ x. x <
     unfolding termInst
     term-low t = (zero-low, (zero-low, all-append Low (map (idOf F first T K) (t .ins)) _ (all-map Low _ (t .ins) id-low) (all-map Low _ (t .targets) label-low)))
 
-    body-low : (q : CfgPoint) (b : BlockLifting) → All LowType (b .decls) → All LowIds (bodyInsts F first T K q b)
-    unfolding bodyInsts
-    body-low q b h =
-        all-append LowIds (phiInsts F first T K q (b .keys) (b .decls) 0) _ (phis-low q (b .keys) (b .decls) 0 h)
-        (all-append LowIds (map (opInst F first T K) (b .ops)) _ (all-map LowIds _ (b .ops) op-low)
-        (all-append LowIds (mergeInsts F first T K (b .term .merge)) _ (merge-low (b .term .merge)) (term-low (b .term), tt)))
+    at-label : (q : CfgPoint) → LowIds (labelInst F first T K q)
+    unfolding labelInst
+    at-label q = (zero-low, (label-low q, tt))
 
-    blocks-low : (L : Table) → Each (λ b. All LowType (b .decls)) L → All LowIds (blockInsts F first T K L)
-    unfolding blockInsts labelInst
-    blocks-low [] h = tt
-    blocks-low (x ∷ L) h = ((zero-low, (label-low (x .0), tt)), all-append LowIds (bodyInsts F first T K (x .0) (x .1)) _ (body-low (x .0) (x .1) (h .0)) (blocks-low L (h .1)))
+    body-low : (q : CfgPoint) (b : BlockLifting) → All LowType (b .decls) → All LowIds (bodyInsts F first T K q b)
+    body-low q b h =
+        all-body F first T K LowIds q b (phis-low q (b .keys) (b .decls) 0 h) (all-map LowIds _ (b .ops) op-low) (merge-low (b .term .merge)) (term-low (b .term))
+
+    blocks-low : Each (λ b. All LowType (b .decls)) K → All LowIds (blockInsts F first T K K)
+    blocks-low h = all-blocks F first T K LowIds K (all-from _ K (λ x i. (at-label (x .0), body-low (x .0) (x .1) (all-in _ K h x i))))
 
     params-low : (ds : List Decl) (i : ℕ) → All LowType ds → All LowIds (paramInsts F first T K ds i)
     unfolding paramInsts paramInst
@@ -181,12 +174,9 @@ module _ (F : Func) (first : ℕ) (positive : 0 < first) (under : All (λ x. x <
     params-low (d ∷ ds) i h = ((h .0, (id-low (regionInput 0 i), tt)), params-low ds (suc i) (h .1))
 
     insts-low : Each (λ b. All LowType (b .decls)) K → All LowIds (instructions F first T K)
-    unfolding instructions functionInst
-    insts-low h = (
-      (given .ret, (new-low theFunction, (given .type, tt))),
-      all-append LowIds (paramInsts F first T K (F .params) 0) _ (params-low (F .params) 0 (given .params))
-          (all-append LowIds (blockInsts F first T K K) _ (blocks-low K h) ((zero-low, (zero-low, tt)), tt)),
-    )
+    unfolding functionInst
+    insts-low h =
+        all-list F first T K LowIds (given .ret, (new-low theFunction, (given .type, tt))) (params-low (F .params) 0 (given .params)) (blocks-low h) (zero-low, (zero-low, tt))
 
   -- each id in each instruction of the list
   pub list-low : All (IdsBelow (nextId F first (walkOf F) (kept (walkOf F)))) (listOf F first)

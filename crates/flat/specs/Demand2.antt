@@ -1,6 +1,6 @@
 -- Demand 2 about the list that is written, for every accepted text, imported functions too: new ids run from the first id to one below the next
--- free id, none twice; every id in the list is below that one, which is 4,194,303 at most; and a phi has one pair for each kept block with an edge to
--- it, holding that edge's value. No hypothesis beyond the answer. Assumes nothing.
+-- free id, none twice; every id in the list is below that one, which is 4,194,303 at most; a phi has one pair for each kept block with an edge to
+-- it, holding that edge's value; and the two labels of a 250 differ. No hypothesis beyond the answer. Assumes nothing.
 use mathlib.Core.Path.{_≡_, refl, sym, ap, _∙_, subst}
 use mathlib.Core.Bool.{true}
 use mathlib.Core.List.{List}
@@ -30,6 +30,7 @@ use Rattle.runs.specs.ListPhis.{PhiPairs, phiIds, phi-pairs-of}
 use Rattle.runs.specs.EveryText.{of-walk}
 use Rattle.runs.specs.Demand3.{accepted, fine, list-is, passed}
 use Rattle.flat.specs.Below.{IdsBelow, list-low}
+use Rattle.flat.specs.Labels.{LabelsDiffer, kept-parted, list-apart}
 use Rattle.flat.specs.Phis.{phi-keys-kept}
 use Rattle.flat.specs.NeverDecides.{by-count-alone, keptByCount}
 
@@ -94,3 +95,13 @@ list-below text first func work out ws next ok =
       subst (λ (n : ℕ). All (IdsBelow n) (listFrom ws)) (sym (w .1 .next-is))
           (subst (All (IdsBelow (nextId F first (walkOf F) (kept (walkOf F))))) (sym (list-is text first func work out ws next ok F (w .1 .text-is))) low),
     )
+
+-- Document 02, W7: no conditional branch of the list names one label twice, whatever it comes from: a ctrl line, a select, a loop's way back.
+pub list-labels : (text : List ℕ) (first func work out : ℕ) (ws : List ℕ) (next : ℕ) → answer text first func work out ≡ listed ws next → All LabelsDiffer (listFrom ws)
+unfolding listOf
+list-labels text first func work out ws next ok =
+    let w = answer-passes text first func work out ws next ok in
+    let F : Func = w .0 in
+    let p = w .1 in
+    subst (All LabelsDiffer) (sym (list-is text first func work out ws next ok F (p .text-is)))
+    (list-apart F first (walkOf F) (kept (walkOf F)) (fine text first func work out ws next ok F (p .text-is) .sound) (kept-parted F (p .references) (p .tree) (p .control) (p .differ)))

@@ -17,5 +17,6 @@ pub mod Kept
 pub mod Callees
 pub mod Missing
 pub mod Below
+pub mod Labels
 pub mod Laws
 pub mod Demand2

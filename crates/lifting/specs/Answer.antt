@@ -1,5 +1,5 @@
 -- Document 01, 'When there is no list' and 'The instruction list': the answer to every text, first id and set of lent slices, and what the
--- slices hold at the end. Each refusal is judged over the whole text before the next: 8, 1 to 7, 9, 10, 11. Assumes nothing.
+-- slices hold at the end. Each refusal is judged over the whole text before the next: 8, 1 to 7, 13, 9, 10, 11. Assumes nothing.
 use mathlib.Core.Bool.{Bool, true, false, _&&_, _||_}
 use mathlib.Core.List.{List, _++_}
 use mathlib.Core.Option.{Option, none, some}
@@ -15,7 +15,7 @@ use Rattle.lifting.specs.Limits.{maxBytes, scratchWords, highestId, with
 use Rattle.lifting.specs.References.{referencesHold}
 use Rattle.lifting.specs.Tree.{isTree}
 use Rattle.lifting.specs.Counts.{countsAgree}
-use Rattle.lifting.specs.Control.{controlFits}
+use Rattle.lifting.specs.Control.{controlFits, targetsDiffer}
 use Rattle.lifting.specs.Points.{BlockLifting, Table, edgeOf}
 use Rattle.lifting.specs.Walk.{walkOf}
 use Rattle.lifting.specs.Absorb.{kept}
@@ -23,14 +23,14 @@ use Rattle.lifting.specs.Ids.{newValues, nextId}
 use Rattle.lifting.specs.Instructions.{listOf}
 use Rattle.lifting.specs.Words.{words}
 
--- 8 and 1 to 7: the parsed function, or the number of the first refusal
+-- 8, 1 to 7 and 13: the parsed function, or the number of the first refusal
 pub data Parsed : Type 0 where
   parsed : Func → Parsed
   denied : ℕ → Parsed
 
--- 3 to 7, each over the whole text
+-- 3 to 7 and 13, each over the whole text
 unfoldable pub checked : Func → Parsed
-unfolding withinLimits referencesHold isTree countsAgree controlFits
+unfolding withinLimits referencesHold isTree countsAgree controlFits targetsDiffer
 checked F =
     elim (withinLimits F) [
       | false ↦ denied 3
@@ -38,7 +38,10 @@ checked F =
         | false ↦ denied 4
         | true ↦ elim (isTree F) [
           | false ↦ denied 5
-          | true ↦ elim (countsAgree F) [ false ↦ denied 6 | true ↦ elim (controlFits F) [ false ↦ denied 7 | true ↦ parsed F ] ]
+          | true ↦ elim (countsAgree F) [
+            | false ↦ denied 6
+            | true ↦ elim (controlFits F) [ false ↦ denied 7 | true ↦ elim (targetsDiffer F) [ false ↦ denied 13 | true ↦ parsed F ] ]
+          ]
         ]
       ]
     ]

@@ -1,4 +1,4 @@
--- Document 01, refusal 7: ctrl lines. Assumes nothing.
+-- Ctrl lines: document 01, refusal 7, and document 02, W7, refusal 13. Assumes nothing.
 use mathlib.Core.Bool.{Bool, true, not, _&&_}
 use mathlib.Core.List.{List, [], _∷_}
 use Prim.Native.Nat.{ℕ}
@@ -45,3 +45,17 @@ controlFits F =
     && every (isRoot F) (keys (F .ctrls))
     && reachedFit (F .ctrls) (roots F)
     && every (λ c. ctrlFits F (c .1)) (F .ctrls)
+
+-- 13: a `bool` ctrl whose two targets are equal. Another selection may name one target twice.
+abbrev pub boolDistinct : ControlInstKind → List ℕ → Bool
+boolDistinct unreachable to = true
+boolDistinct return to = true
+boolDistinct branch to = true
+boolDistinct (selectBranch boolCond) to = distinct to
+boolDistinct (selectBranch (spvInst i)) to = true
+boolDistinct (exitInvocation i) to = true
+
+-- A text passes 13: every ctrl line, reached or not.
+unfoldable pub targetsDiffer : Func → Bool
+unfolding ℕ-discrete
+targetsDiffer F = every (λ c. boolDistinct (c .1 .kind) (c .1 .to)) (F .ctrls)

@@ -84,10 +84,10 @@ starred =
     (blocks 2)
     ∷ row "(func 0 2 3 0)\n(region (in) (nodes) (out))\n(region (in) (nodes) (out))\n(ctrl 0 7 branch (ins) (to 1) (vals))\n(ctrl 1 0 return (ins) (to) (vals))\n" 10
     (blocks 2)
-    -- `bool` to 1 and 1 with one value: its phi has one pair
+    -- `bool` to 1 and 1 with one value: refusal 13 (document 02, W7)
     ∷ row
     "(func 0 2 3 0)\n(const 5 43)\n(region (in) (nodes) (out))\n(region (in (0 4)) (nodes) (out))\n(ctrl 0 0 bool (ins (c 0)) (to 1 1) (vals (1 (c 0))))\n(ctrl 1 0 return (ins (r 1 0)) (to) (vals))\n"
-    10 (pairsOfPhis (1 ∷ []))
+    10 (refuses 13)
     -- no nodes, first id 4,194,301: accepted; 4,194,302: refusal 9 (document 02, W3)
     ∷ row "(func 0 2 3 0)\n(region (in) (nodes) (out))\n" 4194301
     (gives
@@ -121,6 +121,16 @@ further =
     -- roots in reverse post-order, targets taken last to first; a call and an ext; parameters
     ∷ row "(func 1 2 3 4)\n(param 0 6)\n(param 5 6)\n(region (in (0 6) (5 6)) (nodes 0) (out))\n(region (in (0 7)) (nodes) (out))\n(region (in) (nodes) (out))\n(region (in) (nodes) (out))\n(block 1 0)\n(op 0 6 (call 9) (r 0 0))\n(op 2 0 (ext 8 77) (r 0 1))\n(ctrl 0 0 (inst 251 (0 5 1)) (ins (r 0 1)) (to 2 1 3) (vals (1 (d 0))))\n(ctrl 1 3 return (ins (r 1 0)) (to) (vals))\n(ctrl 2 0 branch (ins) (to 1) (vals (1 (r 0 0))))\n(ctrl 3 0 unreachable (ins) (to) (vals))\n" 30
     (gives (54 ∷ 1 ∷ 2 ∷ 30 ∷ 1 ∷ 0 ∷ 1 ∷ 4 ∷ 1 ∷ 3 ∷ 55 ∷ 0 ∷ 6 ∷ 31 ∷ 0 ∷ 0 ∷ 55 ∷ 5 ∷ 6 ∷ 32 ∷ 0 ∷ 0 ∷ 248 ∷ 0 ∷ 0 ∷ 35 ∷ 0 ∷ 0 ∷ 12 ∷ 2 ∷ 0 ∷ 0 ∷ 1 ∷ 0 ∷ 4 ∷ 77 ∷ 2 ∷ 8 ∷ 32 ∷ 57 ∷ 0 ∷ 6 ∷ 34 ∷ 0 ∷ 2 ∷ 9 ∷ 31 ∷ 251 ∷ 0 ∷ 0 ∷ 0 ∷ 1 ∷ 0 ∷ 5 ∷ 1 ∷ 4 ∷ 32 ∷ 36 ∷ 37 ∷ 38 ∷ 248 ∷ 0 ∷ 0 ∷ 36 ∷ 0 ∷ 0 ∷ 249 ∷ 0 ∷ 0 ∷ 0 ∷ 0 ∷ 1 ∷ 37 ∷ 248 ∷ 0 ∷ 0 ∷ 37 ∷ 0 ∷ 0 ∷ 245 ∷ 0 ∷ 7 ∷ 33 ∷ 0 ∷ 4 ∷ 34 ∷ 35 ∷ 31 ∷ 36 ∷ 254 ∷ 3 ∷ 0 ∷ 0 ∷ 0 ∷ 1 ∷ 33 ∷ 248 ∷ 0 ∷ 0 ∷ 38 ∷ 0 ∷ 0 ∷ 255 ∷ 0 ∷ 0 ∷ 0 ∷ 0 ∷ 0 ∷ 56 ∷ 0 ∷ 0 ∷ 0 ∷ 0 ∷ 0 ∷ []) 39)
+    -- another selection to 1 and 1 with one value: its phi has one pair
+    ∷ row
+    "(func 0 2 3 0)\n(const 5 43)\n(region (in) (nodes) (out))\n(region (in (0 4)) (nodes) (out))\n(ctrl 0 0 (inst 251) (ins (c 0)) (to 1 1) (vals (1 (c 0))))\n(ctrl 1 0 return (ins (r 1 0)) (to) (vals))\n"
+    10 (pairsOfPhis (1 ∷ []))
+    -- `bool` to 1 and 1 is refusal 13 where nothing reaches the line too, and before 9; to 0 and 0 it is 7
+    ∷ row "(func 0 2 3 0)\n(const 5 43)\n(region (in) (nodes) (out))\n(region (in) (nodes) (out))\n(ctrl 0 0 return (ins) (to) (vals))\n(ctrl 1 0 bool (ins (c 0)) (to 1 1) (vals))\n" 10
+    (refuses 13)
+    ∷ row "(func 0 2 3 0)\n(const 5 43)\n(region (in) (nodes) (out))\n(region (in) (nodes) (out))\n(ctrl 0 0 bool (ins (c 0)) (to 1 1) (vals))\n(ctrl 1 0 return (ins) (to) (vals))\n" 5
+    (refuses 13)
+    ∷ row "(func 0 2 3 0)\n(const 5 43)\n(region (in) (nodes) (out))\n(ctrl 0 0 bool (ins (c 0)) (to 0 0) (vals))\n" 10 (refuses 7)
     -- an imported function has no blocks
     ∷ row "(func 0 2 3 0)\n(param 0 4)\n(imported)\n" 20
     (gives (54 ∷ 0 ∷ 2 ∷ 20 ∷ 1 ∷ 0 ∷ 1 ∷ 0 ∷ 1 ∷ 3 ∷ 55 ∷ 0 ∷ 4 ∷ 21 ∷ 0 ∷ 0 ∷ 56 ∷ 0 ∷ 0 ∷ 0 ∷ 0 ∷ 0 ∷ []) 22)

@@ -1,6 +1,6 @@
 -- The reader's answer is that of `parse`. Assumes nothing.
 --     short, long, malformed     refusals 8, 1 and 2
---     judged-safe, judged        refusals 3 to 7, of a text that is of the forms
+--     judged-safe, judged        refusals 3 to 7 and 13, of a text that is of the forms
 --     answered, too-short        so the answer and both slices are as promised
 --     accepted, cleared          what a caller has where the function stands in its slice
 use mathlib.Core.Path.{_≡_, refl, sym, ap, subst, _∙_}
@@ -20,7 +20,7 @@ use Rattle.lifting.specs.Grammar.{read}
 use Rattle.lifting.specs.Counts.{edgesFit}
 use Rattle.lifting.specs.Answer as answer
 use Rattle.lifting.specs.Answer.{parsed, denied, checked, formed, parse, zerosUnless8}
-use Rattle.lifting.specs.Control.{controlFits}
+use Rattle.lifting.specs.Control.{controlFits, targetsDiffer}
 use Rattle.references.specs.Test.{opcodeFits, limitsTest, referencesTest}
 use Rattle.tree.specs.Test.{treeTest}
 use Rattle.counts.specs.Test.{countsTest}
@@ -93,13 +93,14 @@ abbrev eight : Parsed → Bool
 eight Function = false
 eight (Refused x) = eqb (refusalNumber x) 8
 
-not-eight : (v w x y z : Bool) → eight (judge v w x y z) ≡ false
-not-eight false w x y z = refl
-not-eight true false x y z = refl
-not-eight true true false y z = refl
-not-eight true true true false z = refl
-not-eight true true true true false = refl
-not-eight true true true true true = refl
+not-eight : (u v w x y z : Bool) → eight (judge u v w x y z) ≡ false
+not-eight false v w x y z = refl
+not-eight true false w x y z = refl
+not-eight true true false x y z = refl
+not-eight true true true false y z = refl
+not-eight true true true true false z = refl
+not-eight true true true true true false = refl
+not-eight true true true true true true = refl
 
 module _ (text : List ℕ) (n m : ℕ) (a : scratchWords ≤ n) (b : scratchWords ≤ m) (h : length text ≤ maxBytes) {opcodes edges : Bool} {v : List ℕ}
     (t : Text opcodes edges text (replicate n 0) (replicate m 0) v) where
@@ -127,7 +128,7 @@ module _ (text : List ℕ) (n m : ℕ) (a : scratchWords ≤ n) (b : scratchWord
       (checked-is text n m a b h (t .F) (t .read-is) ∙ sym k, ap eight e ∙ test)
     where
       test : eight (checksTest v opcodes edges) ≡ false
-      test = unfold checksTest in not-eight (limitsTest v) (referencesTest v && opcodes) (treeTest v) (countsTest v && edges) (fewTest v && controlFits (funcOf v))
+      test = unfold checksTest in not-eight (limitsTest v) (referencesTest v && opcodes) (treeTest v) (countsTest v && edges) (fewTest v && controlFits (funcOf v)) (targetsDiffer (funcOf v))
 
 -- the answer and the slices at the end, from what was judged over zeros
 module _ (text f w : List ℕ) where

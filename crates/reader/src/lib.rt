@@ -49,7 +49,7 @@ fn leave(func: &mut [u32], r: Parsed)
     }
 }
 
-// The function of the text, in the function slice, or the first refusal of 8 and 1 to 7 that holds. The work slice ends as zeros, and the function
+// The function of the text, in the function slice, or the first refusal of 8, 1 to 7 and 13 that holds. The work slice ends as zeros, and the function
 // slice too after a refusal; after 8 both keep their words.
 pub fn parse(text: &[u8], func: &mut [u32], work: &mut [u32]) -> Parsed
     ensures { λ r. ⌜ answerOf r (now (func .exit)) ≡ parse (now (text .entry)) (length (now (func .entry))) (length (now (work .entry))) ⌝ }

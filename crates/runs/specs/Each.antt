@@ -1,16 +1,19 @@
 -- What holds of every block that the walk makes, and what stays so through absorption and the drop. A kept block is one of the walk, emptied or
 -- joined with others, so what all three have each kept block has. Assumes nothing.
 use mathlib.Core.Path.{_≡_, refl}
+use mathlib.Core.Bool.{Bool, true, false}
 use mathlib.Core.List.{List, [], _∷_}
 use mathlib.Core.Option.{Option, none, some}
 use Prim.Native.Nat.{ℕ, zero, suc}
 use native.Mathlib.Decide.{ℕ-discrete}
 use native.Mathlib.Omega.{arith}
+use lib.ListN.{length}
 use Rattle.lifting.specs.Lists.{choose, find}
 use Rattle.lifting.specs.Ast.{Value, Func}
-use Rattle.lifting.specs.Parts.{regionOf, nodeOf, childrenOf}
+use Rattle.lifting.specs.Parts.{regionOf, nodeOf, childrenOf, hasBody}
+use Rattle.lifting.specs.Order.{roots}
 use Rattle.lifting.specs.Points.{CfgPoint, regionEntry, regionExit, nodeEntry, nodeExit, eqPoint, BlockLifting, Table, points, nothingHere, plain, blockOr, blockAt}
-use Rattle.lifting.specs.Walk.{Place, top, inNode, nextPoint, entryBlock, exitBlock, inBlock, outBlock, walkKids, walkNode, walkNodes, walkRegion, walkRoots}
+use Rattle.lifting.specs.Walk.{Place, top, inNode, nextPoint, entryBlock, exitBlock, inBlock, outBlock, walkKids, walkNode, walkNodes, walkRegion, walkRoots, walkOf}
 use Rattle.lifting.specs.Absorb.{useCount, soleTarget, emptied, joined, fuse, Absorbing, ifNoPhis, tryTarget, absorbAll, absorb, keepIf, keep, kept}
 use Rattle.runs.specs.Members.{In, here, there, All, all-append, all-in}
 use Rattle.runs.specs.Tests.{find-in}
@@ -42,6 +45,15 @@ module _ (F : Func) (P : CfgPoint × BlockLifting → Type 0) {R : ℕ → Type 
   pub every-point : (k : ℕ) (rs : List ℕ) → ((r : ℕ) → In r rs → R r) → All P (walkRoots F k rs)
   every-point k [] h = tt
   every-point k (r ∷ rs) h = all-append P (walkRegion F k r top) (walkRoots F k rs) (every-region k r top (λ e. h r here)) (every-point k rs (λ s i. h s (there i)))
+
+  -- in the walk of a text, which has no points where there is no body
+  pub every-walked : ((r : ℕ) → In r (roots F) → R r) → All P (walkOf F)
+  unfolding walkOf
+  every-walked h = by-body (hasBody (F .regions))
+    where
+      by-body : (b : Bool) → All P (elim b [ true ↦ walkRoots F (suc (length (F .regions))) (roots F) | false ↦ [] ])
+      by-body true = every-point (suc (length (F .regions))) (roots F) h
+      by-body false = tt
 
 -- What every absorption leaves as it is holds of the table after all of them.
 module _ (I : Table → Type 0) (fuses : (b t : CfgPoint) (T : Table) → I T → I (fuse b t (blockAt T t) T)) where

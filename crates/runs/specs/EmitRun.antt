@@ -73,6 +73,9 @@ module _ (F : Func) (first : ℕ) (T K : Table) where
   label-named : (q : CfgPoint) (d : BlockLifting) → find eqPoint q K ≡ some d → In (label q) (names F T K)
   label-named q d e = point-named q (in-points (find-in eqPoint q K e))
 
+  pub target-named : (d : BlockLifting) → BlockOk d → (p : CfgPoint) → In p (d .term .targets) → In (label p) (names F T K)
+  target-named d ok p i = let w = ok .targets-kept p i in label-named p (w .0) (w .1)
+
   module _ (ok : Sound) where
     block-ok : (q : CfgPoint) (d : BlockLifting) → find eqPoint q K ≡ some d → BlockOk d
     block-ok q d e = all-find (λ (b : BlockLifting). BlockOk b) q d K (ok .all-ok) e

@@ -1,4 +1,4 @@
--- Refusals 5, 6, 7 and 9 as the facts that a run needs: each is one of their tests, read at one line. Assumes nothing.
+-- Refusals 5, 6, 7, 13 and 9 as the facts that a run needs: each is one of their tests, read at one line. Assumes nothing.
 use mathlib.Core.Path.{_≡_, refl}
 use mathlib.Core.Bool.{Bool, true, false≢true, _&&_}
 use mathlib.Core.List.{List, [], _∷_}
@@ -15,7 +15,7 @@ use Rattle.lifting.specs.Parts.{constOf, regionOf, nodeOf, opOf, ctrlOf, hasBod
 use Rattle.lifting.specs.Limits.{highestId}
 use Rattle.lifting.specs.Tree.{aroundItself, isTree}
 use Rattle.lifting.specs.Counts.{casesFit, nodeFits, edgesFit, bodyFits, countsAgree}
-use Rattle.lifting.specs.Control.{kindFits, isRoot, ctrlFits, controlFits}
+use Rattle.lifting.specs.Control.{kindFits, isRoot, ctrlFits, controlFits, boolDistinct, targetsDiffer}
 use Rattle.lifting.specs.Walk.{walkOf}
 use Rattle.lifting.specs.Absorb.{kept}
 use Rattle.lifting.specs.Ids.{nextId}
@@ -111,18 +111,33 @@ module _ (F : Func) where
         not-child 0 (body-free .1),
       )
 
-  -- 7, at a ctrl line: its targets and how many they are
-  ctrl-fits : controlFits F ≡ true → (r : ℕ) {c : ControlInst} → ctrlOf F r ≡ some c → All (λ s. (0 < s) × Root F s) (c .to) × WayFit (c .kind) (length (c .to))
+  -- 7, at a ctrl line: its targets, and how many inputs and targets it has
+  abbrev aimed : ℕ → Bool
+  aimed s = ltb 0 s && isRoot F s
+
+  ctrl-tests : controlFits F ≡ true → (r : ℕ) {c : ControlInst} → ctrlOf F r ≡ some c → (every aimed (c .to) ≡ true) × (kindFits (c .kind) (length (c .ins)) (length (c .to)) ≡ true)
   unfolding controlFits
-  ctrl-fits control r {c} e =
-      let aimed : ℕ → Bool = λ s. ltb 0 s && isRoot F s in
+  ctrl-tests control r {c} e =
       let first = every aimed (c .to) in
       let tests = both (distinct (keys (F .ctrls)) && _ && _) _ control in
       let fits = every-in (λ x. ctrlFits F (x .1)) (F .ctrls) (tests .1) (r, c) (find-in ℕ-discrete r (F .ctrls) e) in
-      let ways = both (first && _ && _) _ fits in (
-        every-all aimed _ (λ s t. let u = both (ltb 0 s) (isRoot F s) t in (ltb-true 0 s (u .0), not-child s (u .1))) (c .to) (both first _ (both (first && _) _ (ways .0) .0) .0),
-        way-fits (c .kind) (length (c .ins)) (length (c .to)) (ways .1),
+      let ways = both (first && _ && _) _ fits in
+      (both first _ (both (first && _) _ (ways .0) .0) .0, ways .1)
+
+  pub ctrl-counts : controlFits F ≡ true → (r : ℕ) {c : ControlInst} → ctrlOf F r ≡ some c → kindFits (c .kind) (length (c .ins)) (length (c .to)) ≡ true
+  ctrl-counts control r e = ctrl-tests control r e .1
+
+  ctrl-fits : controlFits F ≡ true → (r : ℕ) {c : ControlInst} → ctrlOf F r ≡ some c → All (λ s. (0 < s) × Root F s) (c .to) × WayFit (c .kind) (length (c .to))
+  ctrl-fits control r {c} e =
+      let tests = ctrl-tests control r e in (
+        every-all aimed _ (λ s t. let u = both (ltb 0 s) (isRoot F s) t in (ltb-true 0 s (u .0), not-child s (u .1))) (c .to) (tests .0),
+        way-fits (c .kind) (length (c .ins)) (length (c .to)) (tests .1),
       )
+
+  -- 13, at a ctrl line
+  pub ctrl-differs : targetsDiffer F ≡ true → (r : ℕ) {c : ControlInst} → ctrlOf F r ≡ some c → boolDistinct (c .kind) (c .to) ≡ true
+  unfolding targetsDiffer
+  ctrl-differs differ r {c} e = every-in (λ x. boolDistinct (x .1 .kind) (x .1 .to)) (F .ctrls) differ (r, c) (find-in ℕ-discrete r (F .ctrls) e)
 
   pub targets : Refers F → hasBody (F .regions) ≡ true → Root F 0 → controlFits F ≡ true → Targets F
   targets ok body root control = record {

@@ -185,13 +185,26 @@ module _ (F : Func) (first : ℕ) (T K : Table) where
   abbrev merges : BlockLifting → List Instruction
   merges b = mergeInsts F first T K (b .term .merge)
 
+  -- what holds of each instruction, kind by kind
+  module _ (P : Instruction → Type 0) where
+    pub all-body : (q : CfgPoint) (b : BlockLifting) → All P (phiInsts F first T K q (b .keys) (b .decls) 0) → All P (map (opInst F first T K) (b .ops))
+        → All P (mergeInsts F first T K (b .term .merge)) → P (termInst F first T K (b .term)) → All P (bodyInsts F first T K q b)
+    unfolding bodyInsts
+    all-body q b hp ho hm ht = all-append P (phis q b) _ hp (all-append P (ops b) _ ho (all-append P (merges b) _ hm (ht, tt)))
+
+    pub all-blocks : (L : Table) → All (λ (x : CfgPoint × BlockLifting). P (labelInst F first T K (x .0)) × All P (bodyInsts F first T K (x .0) (x .1))) L → All P (blockInsts F first T K L)
+    unfolding blockInsts
+    all-blocks [] h = tt
+    all-blocks (x ∷ L) h = (h .0 .0, all-append P (bodyInsts F first T K (x .0) (x .1)) _ (h .0 .1) (all-blocks L (h .1)))
+
+    pub all-list : P (functionInst F first T K) → All P (paramInsts F first T K (F .params) 0) → All P (blockInsts F first T K K) → P (endInst F first T K) → All P (instructions F first T K)
+    unfolding instructions
+    all-list hf hp hb he = (hf, all-append P (paramInsts F first T K (F .params) 0) _ hp (all-append P (blockInsts F first T K K) _ hb (he, tt)))
+
   body-inside : (q : CfgPoint) (b : BlockLifting) → Free b → All Inside (bodyInsts F first T K q b)
-  unfolding bodyInsts
   body-inside q b h =
-      all-append Inside (phis q b) _ (phis-inside q (b .keys) (b .decls) 0)
-      (all-append Inside (ops b) _ (all-left Inside OpLike (ops b) (ops-fine (b .ops) (h .0)))
-      (all-append Inside (merges b) _ (all-left Inside MergeLike (merges b) (merge-fine (b .term .merge)))
-      (term-inside (b .term) (h .1), tt)))
+      all-body Inside q b (phis-inside q (b .keys) (b .decls) 0) (all-left Inside OpLike (ops b) (ops-fine (b .ops) (h .0)))
+      (all-left Inside MergeLike (merges b) (merge-fine (b .term .merge))) (term-inside (b .term) (h .1))
 
   body-parts : (q : CfgPoint) (b : BlockLifting) → Free b
       → (phisOf (bodyInsts F first T K q b) ≡ phis q b) × (runOf (bodyInsts F first T K q b) ≡ ops b ++ (termInst F first T K (b .term) ∷ []))

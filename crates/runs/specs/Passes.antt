@@ -15,7 +15,7 @@ use Rattle.lifting.specs.Limits.{maxBytes, scratchWords, withinLimits}
 use Rattle.lifting.specs.References.{referencesHold}
 use Rattle.lifting.specs.Tree.{isTree}
 use Rattle.lifting.specs.Counts.{countsAgree}
-use Rattle.lifting.specs.Control.{controlFits}
+use Rattle.lifting.specs.Control.{controlFits, targetsDiffer}
 use Rattle.lifting.specs.Walk.{walkOf}
 use Rattle.lifting.specs.Absorb.{kept}
 use Rattle.lifting.specs.Ids.{nextId}
@@ -47,6 +47,7 @@ pub record Passed (text : List ℕ) (first out : ℕ) (F : Func) (ws : List ℕ)
   pub tree : isTree F ≡ true
   pub counts : countsAgree F ≡ true
   pub control : controlFits F ≡ true
+  pub differ : targetsDiffer F ≡ true
   pub ids : idsFit F first ≡ true
   pub values : valuesSet F ≡ true
   pub words-are : ws ≡ words (listOf F first)
@@ -71,7 +72,8 @@ func-passes text first out ws next F q e =
     let tree = early (isTree F) _ 5 (references .1) in
     let counts = early (countsAgree F) _ 6 (tree .1) in
     let control = early (controlFits F) _ 7 (counts .1) in
-    let ids = late (idsFit F first) _ 9 (control .1) in
+    let differ = early (targetsDiffer F) _ 13 (control .1) in
+    let ids = late (idsFit F first) _ 9 (differ .1) in
     let values = late (valuesSet F) _ 10 (ids .1) in
     let room = late (leb (length (words (listOf F first))) out) _ 11 (values .1) in
     let same = same-list (words (listOf F first)) ws _ next (room .1) in
@@ -82,6 +84,7 @@ func-passes text first out ws next F q e =
       tree = tree .0;
       counts = counts .0;
       control = control .0;
+      differ = differ .0;
       ids = ids .0;
       values = values .0;
       words-are = same .0;

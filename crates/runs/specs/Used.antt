@@ -10,17 +10,16 @@ use lib.ListN.{length}
 use borrow.Author.Tests.{ltb-true}
 use Rattle.lifting.specs.Lists.{gather, member, find}
 use Rattle.lifting.specs.Ast.{Value, const, regionInput, nodeOutput, dataInstOutput, eqValue, Node, block, select, loop, exit, ControlInst, Func}
-use Rattle.lifting.specs.Parts.{hasBody, regionOf, nodeOf, opOf, ctrlOf, nodeValues, valsOr}
+use Rattle.lifting.specs.Parts.{regionOf, nodeOf, opOf, ctrlOf, nodeValues, valsOr}
 use Rattle.lifting.specs.Points.{CfgPoint, regionEntry, nodeEntry, nodeExit, eqPoint, BlockLifting, Table, plain, blockAt, edgeOf}
-use Rattle.lifting.specs.Order.{roots}
-use Rattle.lifting.specs.Walk.{Place, top, inNode, someVals, rootTerm, always, loopTerm, childTerm, exitBlock, inBlock, walkRoots, walkOf}
+use Rattle.lifting.specs.Walk.{Place, top, inNode, someVals, rootTerm, always, loopTerm, childTerm, exitBlock, inBlock, walkOf}
 use Rattle.lifting.specs.Absorb.{kept}
 use Rattle.lifting.specs.Ids.{paramKeys, resultOf, phiKeys, opKeys}
 use Rattle.lifting.specs.Answer.{setValues, isSet, blockUses, usedValues, valuesSet}
 use Rattle.runs.specs.Members.{In, in-member, All, all-append, all-in, all-from}
 use Rattle.runs.specs.Accepted.{Settled, a-const, a-param, a-phi, a-result, Settles}
 use Rattle.runs.specs.Tests.{every-all, all-tabulate, all-gather, all-split, all-part, find-in}
-use Rattle.runs.specs.Each.{every-point, Each, each-at, each-kept}
+use Rattle.runs.specs.Each.{every-walked, Each, each-at, each-kept}
 use Rattle.runs.specs.Refers.{Named, Refers}
 
 module _ (F : Func) (ok : Refers F) where
@@ -62,13 +61,7 @@ module _ (F : Func) (ok : Refers F) where
   exit-named r (inNode n) = child-named (nodeOf F n) n (regionOf F r .outs) (ok .node-named n) (ok .outs-named r)
 
   walk-named : Each NamedBlock (walkOf F)
-  unfolding walkOf
-  walk-named = by-case (hasBody (F .regions))
-    where
-      by-case : (b : Bool) → Each NamedBlock (elim b [ true ↦ walkRoots F (suc (length (F .regions))) (roots F) | false ↦ [] ])
-      by-case true = every-point F _ {R = λ r. Unit {0}} (λ r p t. (tt, tt, tt)) exit-named (λ n. in-named (nodeOf F n) n (ok .node-named n)) (λ n q. (tt, tt, tt))
-          (suc (length (F .regions))) (roots F) (λ r i. tt)
-      by-case false = tt
+  walk-named = every-walked F _ {R = λ r. Unit {0}} (λ r p t. (tt, tt, tt)) exit-named (λ n. in-named (nodeOf F n) n (ok .node-named n)) (λ n q. (tt, tt, tt)) (λ r i. tt)
 
   kept-named : Each NamedBlock (kept (walkOf F))
   kept-named = each-kept NamedBlock (tt, tt, tt) (λ b h. (tt, tt, h .2)) (λ b c h k. (k .0, k .1, h .2)) (walkOf F) walk-named

@@ -169,7 +169,7 @@ unfolding textBytes answerBytes
 text-room =
     by-parse (λ r. length (textBytes r) ≤ maxLines)
     (λ n h. omega (arith, length-append (refusedBytes n) (bytes "%%\n"), refused-room n))
-    (λ F limits references tree counts control. omega (arith, length-append (linesOf F) (bytes "%%\n"), function-room F limits references tree counts control))
+    (λ F limits references tree counts control differ. omega (arith, length-append (linesOf F) (bytes "%%\n"), function-room F limits references tree counts control))
 
 -- in digits
 pub evaluated : maxLines ≡ 55683

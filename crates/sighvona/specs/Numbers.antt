@@ -13,7 +13,7 @@ use lib.ListN.{length, replicate}
 use Rattle.lifting.specs.Ast.{Func}
 use Rattle.lifting.specs.Answer.{Answer, Parsed, denied, listed, parse, parsed, refused, zerosUnless8}
 use Rattle.checks.specs.declared.Refusal.{Refusal}
-use Rattle.checks.specs.declared.Refusal.the-variants.{Long, Forms, Limits, References, Tree, Counts, Control, Scratch}
+use Rattle.checks.specs.declared.Refusal.the-variants.{Long, Forms, Limits, References, Tree, Counts, Control, Scratch, Targets}
 use Rattle.checks.specs.Test.{refusalNumber}
 use Rattle.emitter.specs.declared.Cause.{Cause}
 use Rattle.emitter.specs.declared.Cause.the-variants.{Text, Ids, Values, Output}
@@ -53,7 +53,7 @@ causeWords (Output n) old = n
 abbrev pub readTo : List ℕ → List ℕ → List ℕ → Parsed
 readTo text func work = parse text (length func) (length work)
 
--- 0 for a text that passes 8 and 1 to 7, else the refusal's number
+-- 0 for a text that passes 8, 1 to 7 and 13, else the refusal's number
 abbrev pub readOf : Parsed → ℕ
 readOf (parsed F) = 0
 readOf (denied n) = n
@@ -65,9 +65,9 @@ readLeaves (denied n) scratch = zerosUnless8 (eqb n 8) scratch
 
 -- ---- of the library
 
--- major, minor and patch as one number: 0.3.0
+-- major, minor and patch as one number: 0.4.0
 abbrev pub version : ℕ
-version = 0 * 65536 + 3 * 256 + 0
+version = 0 * 65536 + 4 * 256 + 0
 
 -- ---- by what the entry tells
 
@@ -89,6 +89,7 @@ not-eleven Tree = refl
 not-eleven Counts = refl
 not-eleven Control = refl
 not-eleven Scratch = refl
+not-eleven Targets = refl
 
 -- only refusal 11 has a count
 cause-words : (c : Cause) (wanted old : ℕ) → Wants wanted (Refused c) → causeWords c old ≡ wantedIf11 (eqb (causeNumber c) 11) wanted old

@@ -57,7 +57,7 @@ pub extern "C" fn sighvona_lift(
     }
 }
 
-// Reads a text and lifts nothing: 0, or the number of the refusal, 8 or 1 to 7. Both slices end as zeros, except after 8, when they keep their words.
+// Reads a text and lifts nothing: 0, or the number of the refusal, 8, 1 to 7 or 13. Both slices end as zeros, except after 8, when they keep their words.
 #[no_mangle]
 pub extern "C" fn sighvona_read(text: &[u8], func: &mut [u32], work: &mut [u32]) -> u32
     ensures refusal { λ r. ⌜ r ≡ readOf (readTo (now (text .entry)) (now (func .entry)) (now (work .entry))) ⌝ }
@@ -72,10 +72,10 @@ pub extern "C" fn sighvona_read(text: &[u8], func: &mut [u32], work: &mut [u32])
     number(x)
 }
 
-// The library's version, 0.3.0: major * 65,536 + minor * 256 + patch.
+// The library's version, 0.4.0: major * 65,536 + minor * 256 + patch.
 #[no_mangle]
 pub extern "C" fn sighvona_version() -> u32
     ensures version { λ r. ⌜ r ≡ version ⌝ }
 {
-    768
+    1024
 }

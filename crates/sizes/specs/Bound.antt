@@ -31,7 +31,7 @@ use Rattle.sizes.specs.Weights.{head, imm, linesWeight, maxWords}
 use Rattle.sizes.specs.Blocks.{blocks-weight, instWeight, length-inst, length-words}
 use Rattle.sizes.specs.Flow.{points-weight}
 use Rattle.sizes.specs.Lines.{phi-lines, points-lines}
-use Rattle.sizes.specs.Parsing.{by-parse, by-test}
+use Rattle.sizes.specs.Parsing.{by-parse, by-test, denial-other}
 
 module _ (F : Func) (first : ℕ) where
   abbrev T : Table
@@ -110,22 +110,18 @@ module _ (first out : ℕ) where
   abbrev Claim : Parsed → Type 0
   Claim p = Bounded out (lifted p first out)
 
-  -- a refusal before 11
-  early : (n : ℕ) → n < 11 → Bounded out (refused n)
-  early n h e = absurd (omega arith)
-
   listed-bounded : (F : Func) → length (words (listOf F first)) ≤ maxWords → Claim (parsed F)
   unfolding lifted written
   listed-bounded F h =
-      by-test (Bounded out) (idsFit F first) (refused 9) _ (λ e. early 9 (omega arith)) (λ i.
-      by-test (Bounded out) (valuesSet F) (refused 10) _ (λ e. early 10 (omega arith)) (λ v.
+      by-test (Bounded out) (idsFit F first) (refused 9) _ (λ e z. absurd (omega arith)) (λ i.
+      by-test (Bounded out) (valuesSet F) (refused 10) _ (λ e z. absurd (omega arith)) (λ v.
       by-test (Bounded out) (leb (length (words (listOf F first))) out) (refused 11) _ (λ e z. omega (arith, leb-false (length (words (listOf F first))) out e)) (λ r. h)))
 
 bounded : (text : List ℕ) (first func work out : ℕ) → Bounded out (answer text first func work out)
 unfolding answer lifted
 bounded text first func work out =
-    by-parse (Claim first out) (λ n h. early first out n (omega arith))
-    (λ F limits references tree counts control. listed-bounded first out F (text-bound F first limits references tree counts control)) text func work
+    by-parse (Claim first out) (λ n h e. absurd (denial-other n h e))
+    (λ F limits references tree counts control differ. listed-bounded first out F (text-bound F first limits references tree counts control)) text func work
 
 -- No list is longer.
 pub list-bound : (text : List ℕ) (first func work out : ℕ) (ws : List ℕ) (next : ℕ) → answer text first func work out ≡ listed ws next → length ws ≤ maxWords

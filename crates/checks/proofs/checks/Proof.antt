@@ -7,8 +7,10 @@ use borrow.Author.Tests.{not-true, not-false}
 use Rattle.references.specs.Test.{limitsTest, referencesTest}
 use Rattle.tree.specs.Test.{treeTest}
 use Rattle.counts.specs.Test.{countsTest}
+use Rattle.lifting.specs.Control.{controlFits}
+use Rattle.func.specs.Decode.{funcOf}
 use Rattle.checks.specs.Test.{fewTest}
-use Rattle.checks.proofs.Laws.{counted, stop-limits, stop-references, stop-tree, stop-counts, stop-few, stop-control, passed}
+use Rattle.checks.proofs.Laws.{counted, stop-limits, stop-references, stop-tree, stop-counts, stop-few, stop-control, stop-targets, passed}
 use Rattle.checks.proofs.checks.Statement.{statement}
 use Rattle.checks.proofs.checks.Tie as tie
 
@@ -91,12 +93,31 @@ returns-6 c =
       t .ensures .1 ∙ c .before .before .before .before .before .before .before .before .before .before .before .before .before .is-tree .ensures .1,
     )
 
+control-pass : (c : tie.Else6) → controlFits (funcOf (c .before .before .before .before .before .before .before .before .before .before .before .before .before .before .before .before .before .before .before .before .before .args .func .now)) ≡ true
+control-pass c = let t = c .before .before .before .control in sym (t .ensures .0) ∙ not-false (t .result) (c .if6 .left)
+
+targets-differ-requires : tie.Need-targets-differ-requires
+targets-differ-requires c κs = (
+  c .before .before .before .before .before .before .before .before .before .before .before .before .before .before .before .before .before .before .before .before .before .pre .0 .tables (limits-pass (c .before .before .before .before .before .before .before .before .before .before .before .before .before .before .before .before .before)) (references-pass (c .before .before .before .before .before .before .before .before .before .before .before .before .before .before .before)) (tree-pass (c .before .before .before .before .before .before .before .before .before .before)) (few-pass (c .before .before .before .before .before)),
+  control-pass c,
+)
+
 returns-7 : tie.Need-returns-7
 returns-7 c =
-    let s = c .before .before .before .before .before .before .before .before .before .before .before .before .before .before .before .before .before .before .before .before .before in
-    let t = c .before .before .before .control in (
-      passed (s .args .func .now) (s .args .opcodes) (s .args .edges) (limits-pass (c .before .before .before .before .before .before .before .before .before .before .before .before .before .before .before .before .before)) (references-pass (c .before .before .before .before .before .before .before .before .before .before .before .before .before .before .before)) (tree-pass (c .before .before .before .before .before .before .before .before .before .before)) (counts-pass (c .before .before .before .before .before .before .before)) (few-pass (c .before .before .before .before .before)) (sym (t .ensures .0) ∙ not-false (t .result) (c .if6 .left)),
-      t .ensures .1 ∙ c .before .before .before .before .before .before .before .before .before .before .before .before .before .is-tree .ensures .1,
+    let e = c .before .before in
+    let s = e .before .before .before .before .before .before .before .before .before .before .before .before .before .before .before .before .before .before .before .before .before in
+    let d = c .before .targets-differ in (
+      stop-targets (s .args .func .now) (s .args .opcodes) (s .args .edges) (limits-pass (e .before .before .before .before .before .before .before .before .before .before .before .before .before .before .before .before .before)) (references-pass (e .before .before .before .before .before .before .before .before .before .before .before .before .before .before .before)) (tree-pass (e .before .before .before .before .before .before .before .before .before .before)) (counts-pass (e .before .before .before .before .before .before .before)) (few-pass (e .before .before .before .before .before)) (control-pass e) (sym (d .ensures) ∙ not-true (d .result) (c .if7 .taken)),
+      e .before .before .before .control .ensures .1 ∙ e .before .before .before .before .before .before .before .before .before .before .before .before .before .is-tree .ensures .1,
+    )
+
+returns-8 : tie.Need-returns-8
+returns-8 c =
+    let e = c .before .before in
+    let s = e .before .before .before .before .before .before .before .before .before .before .before .before .before .before .before .before .before .before .before .before .before in
+    let d = c .before .targets-differ in (
+      passed (s .args .func .now) (s .args .opcodes) (s .args .edges) (limits-pass (e .before .before .before .before .before .before .before .before .before .before .before .before .before .before .before .before .before)) (references-pass (e .before .before .before .before .before .before .before .before .before .before .before .before .before .before .before)) (tree-pass (e .before .before .before .before .before .before .before .before .before .before)) (counts-pass (e .before .before .before .before .before .before .before)) (few-pass (e .before .before .before .before .before)) (control-pass e) (sym (d .ensures) ∙ not-false (d .result) (c .if7 .left)),
+      e .before .before .before .control .ensures .1 ∙ e .before .before .before .before .before .before .before .before .before .before .before .before .before .is-tree .ensures .1,
     )
 
 pub checks-spec : {M : Type 1} → statement M
@@ -120,5 +141,8 @@ checks-spec =
     control-requires
     (λ c. search needs)
     returns-6
+    targets-differ-requires
     (λ c. search needs)
-    returns-7)
+    returns-7
+    (λ c. search needs)
+    returns-8)

@@ -1,4 +1,4 @@
--- `judge` meets its contract: refusal 1, refusal 2, and then 3 to 7. Assumes nothing.
+-- `judge` meets its contract: refusal 1, refusal 2, and then 3 to 7 and 13. Assumes nothing.
 use mathlib.Core.Path.{refl, _∙_}
 use native.Mathlib.Omega.{arith}
 use lib.ListN.{length}
