@@ -1,5 +1,5 @@
-//! A plain reference of document 01 with request W3 of document 02, written from these papers: what
-//! `lift` prints for any input.
+//! A plain reference of document 01 with requests W3 and W7 of document 02, written from these
+//! papers: what `lift` prints for any input.
 //!
 //! It shares no code with the oracle. Terminators are what 'Running the regions and the blocks'
 //! needs them to be, and the comparison with the oracle tells whether the Rust's are the same.
@@ -37,8 +37,8 @@ pub fn blocks(text: &[u8]) -> Result<Vec<String>, u32> {
     Ok(list::block_lines(&parse(text)?))
 }
 
-/// Refusals 1 to 7 and the function.
-fn parse(text: &[u8]) -> Result<Func, u32> {
+/// Refusals 1 to 7 and 13, and the function.
+pub fn parse(text: &[u8]) -> Result<Func, u32> {
     if text.len() > 32_768 {
         return Err(1);
     }
@@ -46,8 +46,9 @@ fn parse(text: &[u8]) -> Result<Func, u32> {
     func.refusal().map_or(Ok(func), Err)
 }
 
-/// Refusals 9 to 11 and the list, for a function that 3 to 7 let pass.
-fn lift(func: &Func, first: u32) -> Answer {
+/// Refusals 9 to 11 and the list, for a function that 3 to 7 let pass. 13 is not looked at here, so
+/// that the generator can ask what else would refuse.
+pub fn lift(func: &Func, first: u32) -> Answer {
     if first == 0 || first <= func.highest_id() {
         return Answer::Refused(9);
     }

@@ -3,7 +3,7 @@
 //! With `--batch` standard input is many cases and standard output as many answers, each ended
 //! by a line `%%`. With `--totals` a list is followed by `(words N)` and `(next N)`, the word
 //! count and the next free id. With `--blocks` an input is a text without a first line, and what
-//! is printed are its kept blocks, or the refusal by 1 to 7.
+//! is printed are its kept blocks, or the refusal by 1 to 7 or 13.
 
 use refer::{Answer, answer, blocks};
 use std::io::{self, Read, Write};

@@ -1,4 +1,5 @@
-//! Document 01, 'When there is no list', refusals 3 to 7 and the ids of 9.
+//! Document 01, 'When there is no list', refusals 3 to 7 and the ids of 9; and 13 of document 02,
+//! W7.
 
 use crate::read::*;
 
@@ -6,7 +7,7 @@ use crate::read::*;
 pub const TABLE: [u32; 15] = [12, 41, 54, 55, 56, 57, 245, 246, 247, 248, 249, 250, 253, 254, 255];
 
 impl Func {
-    /// The first of refusals 3 to 7 that holds.
+    /// The first of refusals 3 to 7 and 13 that holds.
     pub fn refusal(&self) -> Option<u32> {
         let tests = [
             (3, self.over_limits()),
@@ -15,6 +16,7 @@ impl Func {
             (5, self.references_hold() && !self.is_tree()),
             (6, self.references_hold() && self.counts_differ()),
             (7, self.references_hold() && self.ctrl_wrong()),
+            (13, self.equal_bool_targets()),
         ];
         tests.into_iter().find(|(_, holds)| *holds).map(|(number, _)| number)
     }
@@ -254,6 +256,15 @@ impl Func {
         let missing = || !self.reached().iter().all(|r| sources.contains(r));
         !self.ctrls.is_empty()
             && (repeats(&sources) || self.ctrls.iter().any(line_wrong) || missing())
+    }
+
+    /// Whether a `bool` ctrl line, reached or not, has two equal targets: SPIR-V 1.6 has no
+    /// conditional branch with one label twice. A selection by instruction may name one twice.
+    pub fn equal_bool_targets(&self) -> bool {
+        self.ctrls.iter().any(|ctrl| {
+            matches!(ctrl.kind, CtrlKind::Select(Selection::Bool))
+                && matches!(ctrl.targets[..], [one, other] if one == other)
+        })
     }
 
     /// Region 0 and what ctrl targets reach from it.
