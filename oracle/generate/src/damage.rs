@@ -91,7 +91,7 @@ fn form_level(rng: &mut Rng, bytes: &mut Vec<u8>) {
     let place = rng.pick(&places);
     // A form goes with the space or line's end before it.
     let with_mark = place.start.saturating_sub(1)..place.end;
-    match rng.below(6) {
+    match rng.below(7) {
         0 => drop(bytes.splice(with_mark, [])),
         1 => {
             let copy = bytes[with_mark.clone()].to_vec();
@@ -117,6 +117,7 @@ fn form_level(rng: &mut Rng, bytes: &mut Vec<u8>) {
             }
             *bytes = lines.concat();
         }
+        5 => equal_targets(rng, bytes),
         _ => {
             let words = ["return", "branch", "bool", "unreachable", "(exit (inst 252))"];
             let text = String::from_utf8_lossy(bytes).into_owned();
@@ -124,4 +125,32 @@ fn form_level(rng: &mut Rng, bytes: &mut Vec<u8>) {
             *bytes = text.replacen(old, new, 1).into_bytes();
         }
     }
+}
+
+/// Where the two targets of each `bool` ctrl line stand.
+fn bool_targets(text: &str) -> Vec<[Range<usize>; 2]> {
+    let lines = text.match_indices(" bool (ins").filter_map(|(line, _)| {
+        let start = line + text[line..].find(" (to ")? + " (to ".len();
+        let middle = start + text[start..].find(' ')?;
+        let end = start + text[start..].find(')')?;
+        // One target, or three and more, if the middle is not between two.
+        (middle < end && !text[middle + 1..end].contains(' '))
+            .then(|| [start..middle, middle + 1..end])
+    });
+    lines.collect()
+}
+
+/// Makes the two targets of a `bool` ctrl line equal, if there is one.
+fn equal_targets(rng: &mut Rng, bytes: &mut Vec<u8>) {
+    let mut text = String::from_utf8_lossy(bytes).into_owned();
+    let places = bool_targets(&text);
+    if places.is_empty() {
+        return;
+    }
+    let mut pair = rng.pick(&places);
+    rng.shuffle(&mut pair);
+    let [from, to] = pair;
+    let target = text[from].to_owned();
+    text.replace_range(to, &target);
+    *bytes = text.into_bytes();
 }

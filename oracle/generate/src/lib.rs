@@ -11,8 +11,8 @@ pub mod rng;
 use random::Shape;
 use rng::Rng;
 
-pub const RANDOM_KINDS: [&str; 7] =
-    ["structured", "unstructured", "mixed", "wild", "big", "imported", "damaged"];
+pub const RANDOM_KINDS: [&str; 8] =
+    ["structured", "unstructured", "mixed", "wild", "big", "imported", "equal", "damaged"];
 pub const FIXED_KINDS: [&str; 3] = ["skeletons", "graphs", "limits"];
 
 /// The input of a random kind that belongs to a seed and a place in its row.
@@ -20,28 +20,30 @@ pub fn random(kind: &str, seed: u64, place: u64) -> Option<Vec<u8>> {
     // Each place has its own numbers, so that any case can be made alone.
     let mut rng = Rng::new(Rng::new(seed ^ place.wrapping_mul(0x2545_f491_4f6c_dd1d)).draw());
     let rng = &mut rng;
-    let calm = Shape { roots: 0, nodes: 14, exits: 4, wild: 0, unset: false };
+    let calm = Shape { roots: 0, nodes: 14, exits: 4, wild: 0, unset: false, equal: 0 };
+    let graph = Shape { roots: 6, nodes: 4, ..calm };
     let input = match kind {
         "structured" => random::body(rng, calm),
-        "unstructured" => random::body(rng, Shape { roots: 6, nodes: 4, ..calm }),
+        "unstructured" => random::body(rng, graph),
         // Values at random, but seldom one that is not set.
         "mixed" => match rng.below(20) {
             0 => random::imported(rng),
             1..10 => random::body(rng, Shape { wild: 15, ..calm }),
-            _ => random::body(rng, Shape { roots: 6, nodes: 4, wild: 15, ..calm }),
+            _ => random::body(rng, Shape { wild: 15, ..graph }),
         },
         // Values and exits anywhere.
         "wild" => {
             let roots = if rng.chance(50) { 0 } else { 8 };
             let nodes = if roots == 0 { 20 } else { 5 };
-            random::body(rng, Shape { roots, nodes, exits: 15, wild: 25, unset: true })
+            random::body(rng, Shape { roots, nodes, exits: 15, wild: 25, unset: true, ..calm })
         }
         "big" => {
             let roots = rng.pick(&[0, 0, 20, 60]);
             let nodes = if roots == 0 { 100 } else { 6 };
-            random::body(rng, Shape { roots, nodes, exits: 1, wild: 5, unset: false })
+            random::body(rng, Shape { roots, nodes, exits: 1, wild: 5, ..calm })
         }
         "imported" => random::imported(rng),
+        "equal" => random::equal(rng, graph),
         "damaged" => {
             let kind = rng.pick(&["mixed", "wild", "structured", "unstructured"]);
             let input = random(kind, rng.draw(), 0)?;

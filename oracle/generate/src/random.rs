@@ -1,10 +1,11 @@
-//! Texts at random that refusals 1 to 9 let pass.
+//! Texts at random that refusals 1 to 9 and 13 let pass, and such that 13 refuses.
 //!
 //! First the tree and the graph are made, each value slot with a value that is visible there;
 //! then some values are replaced by any that the text has, and all numbers are shuffled.
 
 use crate::print::Case;
 use crate::rng::Rng;
+use refer::Answer;
 use refer::read::*;
 
 /// What to make.
@@ -21,6 +22,8 @@ pub struct Shape {
     /// Whether such a value may come from behind an exit or from a root that is not reached,
     /// which mostly is refusal 10.
     pub unset: bool,
+    /// In a hundred `bool` ctrl lines, those with equal targets; if any may have them, one has.
+    pub equal: usize,
 }
 
 pub fn imported(rng: &mut Rng) -> Case {
@@ -38,9 +41,37 @@ pub fn body(rng: &mut Rng, shape: Shape) -> Case {
         let mut func = maker.func;
         renumber(rng, &mut func);
         let case = finish(rng, func);
-        if case.to_string().len() <= 32_000 && !case.func.over_limits() {
+        if case.to_string().len() <= 32_000
+            && !case.func.over_limits()
+            && case.func.equal_bool_targets() == (shape.equal > 0)
+        {
             return case;
         }
+    }
+}
+
+/// A text with equal `bool` targets, which nothing else refuses; one in four would be refused by 9
+/// too, for a first id that is too low, or by 10.
+pub fn equal(rng: &mut Rng, shape: Shape) -> Case {
+    let shape = Shape { equal: 50, ..shape };
+    match rng.below(8) {
+        0 => {
+            let case = body(rng, shape);
+            let highest = case.func.highest_id() as usize;
+            Case { first: rng.below(highest + 1) as u32, ..case }
+        }
+        1 => loop {
+            let case = body(rng, Shape { wild: 25, unset: true, ..shape });
+            if let Answer::Refused(10) = refer::lift(&case.func, case.first) {
+                return case;
+            }
+        },
+        _ => loop {
+            let case = body(rng, shape);
+            if let Answer::List { .. } = refer::lift(&case.func, case.first) {
+                return case;
+            }
+        },
     }
 }
 
@@ -333,7 +364,17 @@ impl Maker<'_> {
         if !others.is_empty() && self.rng.chance(if i == 0 { 95 } else { 70 }) {
             match self.rng.below(4) {
                 0 | 1 => (CtrlKind::Branch, targets(self.rng, 1)),
-                2 => (CtrlKind::Select(Selection::Bool), targets(self.rng, 2)),
+                2 if self.rng.chance(self.shape.equal) => {
+                    let target = targets(self.rng, 1)[0];
+                    (CtrlKind::Select(Selection::Bool), vec![target; 2])
+                }
+                2 if others.len() > 1 => {
+                    let first = targets(self.rng, 1)[0];
+                    let rest: Vec<u32> = others.iter().copied().filter(|r| *r != first).collect();
+                    (CtrlKind::Select(Selection::Bool), vec![first, self.rng.pick(&rest)])
+                }
+                // An instruction may name one target twice, so it does for a `bool` where there is
+                // only one.
                 _ => {
                     let count = 1 + self.rng.below(4);
                     let kind = CtrlKind::Select(Selection::Inst(inst(self.rng)));
