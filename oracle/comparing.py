@@ -31,6 +31,11 @@ def split(batch):
     return parts
 
 
+def random_kinds():
+    """The kinds of the generator that have a seed."""
+    return run([program("generate"), "--kinds"]).decode().split()
+
+
 def generated(kind, *numbers):
     return run([program("generate"), kind, *map(str, numbers)])
 

@@ -20,6 +20,11 @@ def run(command, data=b''):
     return subprocess.run(command, input=data, stdout=subprocess.PIPE, check=True).stdout
 
 
+def random_kinds():
+    """The kinds of the generator that have a seed."""
+    return run([program('generate'), '--kinds']).decode().split()
+
+
 def generated(kind, *numbers):
     """The texts of generated inputs; one whose first line was damaged is left out."""
     inputs = split(run([program('generate'), kind, *map(str, numbers)]))

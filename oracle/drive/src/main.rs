@@ -81,6 +81,8 @@ fn judge(library: &mut Library, case: &[u8]) -> Result<String, String> {
         library.lift(text, first, lengths, &Expected::Refused(8))?;
     }
     library.read(text, full - 1, more, 8)?;
+    // Reading meets 1 to 7 and 13, and no refusal that needs the first id or the blocks.
+    library.read(text, full, full, refer::parse(text).err().unwrap_or(0))?;
     match &expected {
         Expected::List { words, .. } => {
             let length = words.len();
@@ -90,14 +92,12 @@ fn judge(library: &mut Library, case: &[u8]) -> Result<String, String> {
             for lengths in [[full; 3], [more, full, length], [full, more, length - 1]] {
                 library.lift(text, first, lengths, &expected)?;
             }
-            library.read(text, full, full, 0)?;
             let longer = "longer lists equal, refused with 11 for 16,384 words";
             Ok(if length > full { longer } else { "lists equal" }.to_owned())
         }
         Expected::Refused(number) => {
             library.lift(text, first, [full; 3], &expected)?;
             library.lift(text, first, [more, full, 0], &expected)?;
-            library.read(text, full, full, if *number < 9 { *number } else { 0 })?;
             Ok(format!("refused {number:2}"))
         }
     }
