@@ -6,10 +6,22 @@ from batch import ROOT, read, split
 # No id above this one is given (document 02, W3).
 HIGHEST_ID = 4194302
 RESULTS = re.compile(rb'^\([0-9]+ [0-9]+ [0-9]+ ([0-9]+) ', re.MULTILINE)
+# A `bool` ctrl line with two equal targets (document 02, W7), in a text that refusals 1 to 7 let pass.
+EQUAL = re.compile(rb'^\(ctrl [0-9]+ [0-9]+ bool .* \(to ([0-9]+) \1\) \(vals', re.MULTILINE)
+EARLIER = re.compile(rb'\(refused [1-8]\)\n')
 
 
-def answered(answer):
+def equal_targets(text):
+    """Whether refusal 13 is met by a text that 1 to 7 let pass."""
+    return bool(EQUAL.search(text))
+
+
+def answered(case, answer):
     """What an answer by document 01 becomes by the requests of document 02 that are in force."""
+    if EARLIER.fullmatch(answer):
+        return answer
+    if equal_targets(case):
+        return b'(refused 13)\n'
     above = any(int(result) > HIGHEST_ID for result in RESULTS.findall(answer))
     return b'(refused 9)\n' if above else answer
 
@@ -17,7 +29,7 @@ def answered(answer):
 def vectors(folder):
     """The inputs of a folder's cases.batch, each with its answer; answers.batch holds document 01's."""
     cases, answers = (split(read(os.path.join(folder, name))) for name in ['cases.batch', 'answers.batch'])
-    return [(case, answered(answer)) for case, answer in zip(cases, answers, strict=True)]
+    return [(case, answered(case, answer)) for case, answer in zip(cases, answers, strict=True)]
 
 
 def rows():
