@@ -6,6 +6,8 @@ STDIN = os.path.join(ROOT, 'crates', 'cases', 'stdin')
 STDOUT = os.path.join(ROOT, 'crates', 'cases', 'stdout')
 PROGRAM = os.path.join(ROOT, 'target', 'bin', 'cases')
 END = b'%%\n'
+# The refusals that the reader gives. The others ask for a first id, for blocks or for slices.
+READER = {1, 2, 3, 4, 5, 6, 7, 13}
 
 
 def read(path):
