@@ -8,6 +8,7 @@ HIGHEST_ID = 4194302
 RESULTS = re.compile(rb'^\([0-9]+ [0-9]+ [0-9]+ ([0-9]+) ', re.MULTILINE)
 # A `bool` ctrl line with two equal targets (document 02, W7), in a text that refusals 1 to 7 let pass.
 EQUAL = re.compile(rb'^\(ctrl [0-9]+ [0-9]+ bool .* \(to ([0-9]+) \1\) \(vals', re.MULTILINE)
+# The refusals that come before 13.
 EARLIER = re.compile(rb'\(refused [1-8]\)\n')
 
 
