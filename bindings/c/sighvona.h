@@ -15,7 +15,7 @@
 
 /* The version of this header, and the number of it that `sighvona_version` gives for the library's. Macros, so that #if can ask. */
 #define SIGHVONA_VERSION_MAJOR 0
-#define SIGHVONA_VERSION_MINOR 3
+#define SIGHVONA_VERSION_MINOR 4
 #define SIGHVONA_VERSION_PATCH 0
 #define SIGHVONA_VERSION (SIGHVONA_VERSION_MAJOR * 65536u + SIGHVONA_VERSION_MINOR * 256u + SIGHVONA_VERSION_PATCH)
 
@@ -34,8 +34,8 @@ enum {
     SIGHVONA_MAX_WORDS = 23184
 };
 
-/* What a call answers: 0, or the number of the refusal in document 01. They are looked for in the order 8, 1 to 7, 9, 10, 11, each over the
- * whole text before the next, so the answer is the first that applies. Later versions may have more numbers. */
+/* What a call answers: 0, or the number of the refusal in documents 01 and 02. They are looked for in the order 8, 1 to 7, 13, 9, 10, 11, each
+ * over the whole text before the next, so the answer is the first that applies. Later versions may have more numbers. */
 enum sighvona_answer {
     SIGHVONA_LIFTED = 0,
     /* the text has over 32,768 bytes */
@@ -65,7 +65,9 @@ enum sighvona_answer {
     /* a kept instruction uses a value that no kept block sets and that is neither a constant nor a parameter */
     SIGHVONA_VALUES = 10,
     /* the output slice is shorter than the list */
-    SIGHVONA_OUTPUT = 11
+    SIGHVONA_OUTPUT = 11,
+    /* the two targets of a `bool` ctrl are equal, whether it is reached or not */
+    SIGHVONA_TARGETS = 13
 };
 
 /* Lifts a text: SIGHVONA_LIFTED, which is 0, or the number of the refusal.
@@ -83,7 +85,7 @@ enum sighvona_answer {
  *   answer            *words                  *next           out                                        func, work
  *   0                 the list's words        the next id     the list, then what was there beyond it    zeros
  *   11                the list's words        what it was     what it was                                zeros
- *   1 to 7, 9, 10     what it was             what it was     what it was                                zeros
+ *   1 to 7, 13, 9, 10 what it was             what it was     what it was                                zeros
  *   8                 what it was             what it was     what it was                                what they were
  *
  * So after 11 a call with an output slice of *words words gives the list, and a first call may lend none (out_len 0) to ask for the count.
@@ -95,8 +97,8 @@ enum sighvona_answer {
 uint32_t sighvona_lift(const uint8_t *text, size_t text_len, uint32_t first, uint32_t *func, size_t func_len, uint32_t *work,
                        size_t work_len, uint32_t *out, size_t out_len, size_t *words, uint32_t *next);
 
-/* Reads a text and lifts nothing: 0 if it is acceptable by 8 and 1 to 7, else the number of the first of these refusals that applies. The
- * parameters are those of `sighvona_lift`.
+/* Reads a text and lifts nothing: 0 if it is acceptable by 8, 1 to 7 and 13, else the number of the first of these refusals that
+ * applies. The parameters are those of `sighvona_lift`.
  *
  * Both scratch slices end as zeros, after 0 too, except after 8, when they are what they were. */
 uint32_t sighvona_read(const uint8_t *text, size_t text_len, uint32_t *func, size_t func_len, uint32_t *work, size_t work_len);

@@ -18,6 +18,9 @@
 #define BLOCK "(region (in) (nodes 0) (out))\n(block 0)\n"
 #define LISTING FUNC "(const 5 43)\n" BLOCK "(op 0 4 (inst 128) (c 0) (c 0))\n"
 #define LISTING_WORDS 36
+#define TWO_REGIONS FUNC "(const 5 43)\n" EMPTY EMPTY
+/* region 0 goes to region 1 twice, by a `bool` or an INST, and region 1 returns */
+#define TWICE(kind) TWO_REGIONS "(ctrl 0 0 " kind " (ins (c 0)) (to 1 1) (vals))\n(ctrl 1 0 return (ins) (to) (vals))\n"
 
 static const struct {
     uint32_t opcode, attributes, result_type, result, immediates, immediate[3], ids, id[2];
@@ -56,6 +59,11 @@ static const struct refused {
     {SIGHVONA_COUNTS, "an input without a param", 10, FUNC "(region (in (0 4)) (nodes) (out))\n", "", 0},
     {SIGHVONA_CONTROL, "a branch without a target", 10, FUNC EMPTY "(ctrl 0 0 branch (ins) (to) (vals))\n", "", 0},
     {SIGHVONA_CONTROL, "two ctrl lines for a region", 10, FUNC EMPTY, "(ctrl 0 0 return (ins) (to) (vals))\n", 2},
+    {SIGHVONA_CONTROL, "equal targets that are region 0", 10, FUNC "(const 5 43)\n" EMPTY "(ctrl 0 0 bool (ins (c 0)) (to 0 0) (vals))\n", "", 0},
+    {SIGHVONA_TARGETS, "equal targets", 10, TWICE("bool"), "", 0},
+    {SIGHVONA_TARGETS, "equal targets, with a first id that is too low", 5, TWICE("bool"), "", 0},
+    {SIGHVONA_TARGETS, "equal targets of a line that is not reached", 10,
+     TWO_REGIONS "(ctrl 0 0 return (ins) (to) (vals))\n(ctrl 1 0 bool (ins (c 0)) (to 1 1) (vals))\n", "", 0},
     {SIGHVONA_IDS, "the first id is 0", 0, FUNC "(imported)\n", "", 0},
     {SIGHVONA_IDS, "the first id is one of the text", 3, FUNC "(imported)\n", "", 0},
     {SIGHVONA_IDS, "the label would get an id over the highest", SIGHVONA_HIGHEST_ID, FUNC EMPTY, "", 0},
@@ -204,6 +212,14 @@ static void highest_id(void) {
     }
 }
 
+/* A selection that is no `bool` may name one target twice. */
+static void equal_targets(void) {
+    const char *text = TWICE("(inst 251)");
+    about = "equal targets of an INST";
+    lift(SIGHVONA_LIFTED, text, strlen(text), 10, WORDS, WORDS, WORDS);
+    read_alone(0, text, strlen(text), WORDS, WORDS);
+}
+
 /* A text that is refused: with output slices of any length, but 8 comes first. */
 static void refused(const struct refused *given) {
     static char text[SIGHVONA_TEXT_BYTES + 100];
@@ -215,7 +231,7 @@ static void refused(const struct refused *given) {
     }
     refuse(given->number, text, length, given->first, WORDS, WORDS, WORDS);
     refuse(given->number, text, length, given->first, WORDS + 1, ROOM, 0);
-    read_alone(given->number < SIGHVONA_SCRATCH ? given->number : 0, text, length, WORDS, WORDS);
+    read_alone(given->number < SIGHVONA_SCRATCH || given->number == SIGHVONA_TARGETS ? given->number : 0, text, length, WORDS, WORDS);
     refuse(SIGHVONA_SCRATCH, text, length, given->first, WORDS - 1, WORDS, WORDS);
     read_alone(SIGHVONA_SCRATCH, text, length, WORDS, WORDS - 1);
 }
@@ -260,9 +276,10 @@ static void stepping(void) {
 int main(void) {
     about = "the version";
     expect(sighvona_version() == SIGHVONA_VERSION, "the library's is the header's");
-    expect(SIGHVONA_VERSION == 768, "0.3.0 as a number");
+    expect(SIGHVONA_VERSION == 1024, "0.4.0 as a number");
     listing();
     highest_id();
+    equal_targets();
     for (size_t i = 0; i < COUNT(REFUSED); i++) {
         refused(&REFUSED[i]);
     }

@@ -45,7 +45,7 @@ use std::fmt;
 
 /// The version that this crate is for: major * 65,536 + minor * 256 + patch. [`library_version`]
 /// tells that of the archive that was linked.
-pub const VERSION: u32 = version(0, 3, 0);
+pub const VERSION: u32 = version(0, 4, 0);
 
 const fn version(major: u32, minor: u32, patch: u32) -> u32 {
     major * 65_536 + minor * 256 + patch
@@ -73,10 +73,10 @@ pub struct Lifted {
     pub next: u32,
 }
 
-/// Why there is no list. [`number`](Self::number) gives the number in the scope, document 01.
+/// Why there is no list. [`number`](Self::number) gives the number in documents 01 and 02.
 ///
-/// They are looked for in the order 8, 1 to 7, 9, 10, 11, each over the whole text before the next,
-/// so the first that applies is given.
+/// They are looked for in the order 8, 1 to 7, 13, 9, 10, 11, each over the whole text before the
+/// next, so the first that applies is given.
 ///
 /// ```
 /// use sighvona::{lift, Refusal, Scratch};
@@ -128,10 +128,12 @@ pub enum Refusal {
         /// How many words the list has. The same call with so many gives it.
         wanted: usize,
     },
+    /// 13: the two targets of a `bool` ctrl are equal, whether it is reached or not.
+    Targets,
 }
 
 impl Refusal {
-    /// Its number, 1 to 11.
+    /// Its number, 1 to 11 or 13.
     pub const fn number(self) -> u32 {
         match self {
             Self::Long => 1,
@@ -145,6 +147,7 @@ impl Refusal {
             Self::Ids => 9,
             Self::Values => 10,
             Self::Output { .. } => 11,
+            Self::Targets => 13,
         }
     }
 
@@ -161,6 +164,7 @@ impl Refusal {
             Self::Ids => "the first id is too low or too high",
             Self::Values => "an instruction uses a value that is not set",
             Self::Output { .. } => "the output slice is shorter than the list",
+            Self::Targets => "the two targets of a bool ctrl are equal",
         }
     }
 }
@@ -259,7 +263,7 @@ pub fn lift_in(
     told(number, words).map(|()| Lifted { words, next })
 }
 
-/// Reads a text and lifts nothing: whether refusals 1 to 7 let it pass.
+/// Reads a text and lifts nothing: whether refusals 1 to 7 and 13 let it pass.
 ///
 /// # Panics
 ///
@@ -300,6 +304,7 @@ fn told(number: u32, wanted: usize) -> Result<(), Refusal> {
         9 => Refusal::Ids,
         10 => Refusal::Values,
         11 => Refusal::Output { wanted },
+        13 => Refusal::Targets,
         _ => panic!("answer {number} of version {}, for {VERSION}", library_version()),
     })
 }

@@ -18,7 +18,7 @@ extern "C" {
         next: *mut u32,
     ) -> u32;
 
-    /// Reads a text and lifts nothing: 0, or the number of the refusal, 8 or 1 to 7.
+    /// Reads a text and lifts nothing: 0, or the number of the refusal, 8, 1 to 7 or 13.
     pub fn sighvona_read(
         text: *const u8,
         text_len: usize,

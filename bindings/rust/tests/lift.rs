@@ -99,13 +99,14 @@ fn reading() {
 }
 
 /// Of a text: a function without parameters, and what follows its first line. No slice of output is
-/// lent, as 11 comes last; and reading alone refuses by 1 to 7.
+/// lent, as 11 comes last; and reading alone refuses by 1 to 7 and 13.
 fn refusal(first: u32, rest: &str) -> (u32, Refusal) {
     let text = format!("(func 0 2 3 0)\n{rest}");
     let mut scratch = Scratch::new();
     let refusal = lift(text.as_bytes(), first, &mut scratch, &mut []).expect_err(rest);
     let judged = read(text.as_bytes(), &mut scratch);
-    assert_eq!(judged, if refusal.number() < 8 { Err(refusal) } else { Ok(()) });
+    let by_text = matches!(refusal.number(), 1..=7 | 13);
+    assert_eq!(judged, if by_text { Err(refusal) } else { Ok(()) });
     (refusal.number(), refusal)
 }
 
@@ -122,6 +123,18 @@ fn refusals() {
     assert_eq!(refusal(10, &empty.repeat(2)), (5, Refusal::Tree));
     assert_eq!(refusal(10, "(region (in (0 4)) (nodes) (out))\n"), (6, Refusal::Counts));
     assert_eq!(refusal(10, &format!("{empty}{twice}")), (7, Refusal::Control));
+    // The targets 1 and 1, reached and not; before 9; and 0 and 0, which are wrong by themselves.
+    let equal = |r, to| {
+        let other = format!("(ctrl {} 0 return (ins) (to) (vals))\n", 1 - r);
+        let by = format!("(ctrl {r} 0 bool (ins (c 0)) (to {to} {to}) (vals))\n");
+        let lines = if r == 0 { by + &other } else { other + &by };
+        format!("(const 5 43)\n{}{lines}", empty.repeat(2))
+    };
+    assert_eq!(refusal(10, &equal(0, 1)), (13, Refusal::Targets));
+    assert_eq!(refusal(10, &equal(1, 1)), (13, Refusal::Targets));
+    assert_eq!(refusal(5, &equal(0, 1)), (13, Refusal::Targets));
+    assert_eq!(refusal(10, &equal(0, 0)), (7, Refusal::Control));
+    assert_eq!(refusal(10, &equal(0, 1).replace("bool", "(inst 251)")).0, 11);
     assert_eq!(refusal(0, empty), (9, Refusal::Ids));
     assert_eq!(refusal(3, empty), (9, Refusal::Ids));
     assert_eq!(refusal(10, &format!("{empty}{input}")), (10, Refusal::Values));
@@ -156,8 +169,9 @@ fn errors() {
         Refusal::Ids,
         Refusal::Values,
         Refusal::Output { wanted: 36 },
+        Refusal::Targets,
     ];
-    for (number, refusal) in (1..).zip(refusals) {
+    for (number, refusal) in (1..=11).chain([13]).zip(refusals) {
         assert_eq!(refusal.number(), number);
         let error: Box<dyn std::error::Error + Send + Sync> = refusal.into();
         assert!(error.to_string().starts_with(&format!("refusal {number}: ")));
@@ -208,7 +222,7 @@ fn steps_through_any_words() {
 #[test]
 fn version() {
     assert_eq!(sighvona::library_version(), sighvona::VERSION);
-    assert_eq!(sighvona::VERSION, 768);
+    assert_eq!(sighvona::VERSION, 1024);
     let [major, minor, patch] = [16, 8, 0].map(|bits| sighvona::VERSION >> bits & 255);
     assert_eq!(format!("{major}.{minor}.{patch}"), env!("CARGO_PKG_VERSION"));
 }
