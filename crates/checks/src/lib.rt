@@ -1,7 +1,6 @@
 // Refusals 3 to 7 and 13, in their order, of the text that stands in the function slice. Each test may look only at what those before it have shown
 // to be there.
 use control::control;
-use control::targets_differ;
 use counts::counts;
 use func::CTRLS;
 use func::ENTRIES;
@@ -9,6 +8,7 @@ use func::count;
 use references::limits;
 use references::references;
 use references::rules::both;
+use targets::targets_differ;
 use tree::is_tree;
 ghost use mathlib.Core.Path.{_≡_};
 ghost use Prim.Native.Nat.{_≤_};

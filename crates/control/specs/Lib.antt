@@ -1,4 +1,4 @@
--- The tables by region, the walk of the roots, and the tests of refusals 7 and 13 as loops.
+-- The tables by region, the walk of the roots, and the tests of refusal 7 as loops.
 pub mod Tables
 pub mod Visit
 pub mod Loops

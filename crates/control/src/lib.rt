@@ -1,4 +1,4 @@
-// Refusals 7 and 13: whether the ctrl lines of the function slice fit, and whether those by `bool` have two targets. Regions are looked up in the tables of the work slice; entries of one line are
+// Refusal 7: whether the ctrl lines of the function slice fit. Regions are looked up in the tables of the work slice; entries of one line are
 // compared with its other entries and its targets. The roots come from the walk.
 pub mod tables;
 pub mod walk;
@@ -20,18 +20,17 @@ use func::look::target;
 use func::look::target_count;
 use func::pools::wide;
 ghost use mathlib.Core.Path.{_≡_};
-ghost use mathlib.Core.Bool.{true};
 ghost use Prim.Native.Nat.{_≤_, _<_};
 ghost use lib.ListN.{length, drop};
 ghost use Rattle.lifting.specs.Limits.{scratchWords};
 ghost use Rattle.lifting.specs.Lists.{every, within, distinct, keys};
 ghost use Rattle.lifting.specs.Parts.{childList};
-ghost use Rattle.lifting.specs.Control.{isRoot, ctrlFits, controlFits, targetsDiffer};
+ghost use Rattle.lifting.specs.Control.{isRoot, ctrlFits, controlFits};
 ghost use Rattle.func.specs.Decode.{funcOf};
 ghost use Rattle.func.specs.Tables.{Tables, ctrlLine};
 ghost use Rattle.control.specs.Tables.{childrenAt, tablesEnd, Named, Indexed, Marked, Above};
 ghost use Rattle.control.specs.Visit.{listed, Low};
-ghost use Rattle.control.specs.Loops.{targetFits, lineFits, kindTest, boolTest, lineCounts, lineDiffers};
+ghost use Rattle.control.specs.Loops.{targetFits, lineFits, kindTest};
 
 // Region r is no child.
 fn is_root(func: &[u32], work: &[u32], r: usize) -> bool
@@ -262,50 +261,4 @@ pub fn control(func: &[u32], work: &mut [u32]) -> bool
     }
     let n = order(func, work);
     have_ctrls(func, work, n)
-}
-
-// A line of this kind is a `bool` ctrl.
-fn by_bool(kind: CtrlKind) -> bool
-    ensures { λ x. ⌜ x ≡ boolTest kind ⌝ }
-{
-    match kind {
-        CtrlKind::Unreachable => false,
-        CtrlKind::Return => false,
-        CtrlKind::Branch => false,
-        CtrlKind::Bool => true,
-        CtrlKind::Inst => false,
-        CtrlKind::Exit => false,
-    }
-}
-
-// Line c, whose counts fit its kind, does not name one target twice by `bool`.
-fn line_differs(func: &[u32], c: usize) -> bool
-    requires { ⌜ Tables (now func) ⌝ }
-    requires { ⌜ c < length (funcOf (now func) .ctrls) ⌝ }
-    requires { ⌜ lineCounts (ctrlLine (funcOf (now func)) c) ≡ true ⌝ }
-    ensures { λ x. ⌜ x ≡ lineDiffers (ctrlLine (funcOf (now (func .entry))) c) ⌝ }
-{
-    if !by_bool(ctrl_kind(func, c)) {
-        return true;
-    }
-    let a = target(func, c, 0);
-    let b = target(func, c, 1);
-    a != b
-}
-
-// The text in the function slice, which passes refusal 7, passes 13.
-pub fn targets_differ(func: &[u32]) -> bool
-    requires { ⌜ Tables (now func) ⌝ }
-    requires { ⌜ controlFits (funcOf (now func)) ≡ true ⌝ }
-    ensures { λ r. ⌜ r ≡ targetsDiffer (funcOf (now (func .entry))) ⌝ }
-{
-    let k = ctrl_total(func);
-    let mut i = 0;
-    while i < k {
-        if !line_differs(func, i) {
-            return false;
-        }
-        i += 1;
-    }
-    true
 }

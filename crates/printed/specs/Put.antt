@@ -76,6 +76,10 @@ put-more {w} {u} {v} {a} {b} {c} {k} {l} p q =
 pub put-same : {w u : List ℕ} {a b : ℕ} {k l : List ℕ} → Put w a k u b → k ≡ l → Put w a l u b
 put-same {w} {u} {a} {b} p e = subst (λ (x : List ℕ). Put w a x u b) e p
 
+-- bytes from the start on, of which there are at most k
+pub put-low : {w out : List ℕ} {next k : ℕ} {l : List ℕ} → Put w 0 l out next → length l ≤ k → next ≤ k
+put-low p h = omega (arith, p .place)
+
 -- the slice keeps its length
 pub put-length : {w out : List ℕ} {at next : ℕ} {l : List ℕ} → Put w at l out next → length out ≡ length w
 put-length {w} {at = at} {l = l} p = ap length (p .stored) ∙ length-sets w at l

@@ -1,4 +1,4 @@
--- `control::targets_differ` meets its contract. Assumes nothing.
+-- `targets::targets_differ` meets its contract. Assumes nothing.
 use mathlib.Core.Path.{_≡_, refl, sym, _∙_}
 use Prim.Native.Nat.{_-_, _<_}
 use native.Mathlib.Omega.{arith}
@@ -8,10 +8,11 @@ use borrow.Author.Tests.{not-true, not-false}
 use Rattle.lifting.specs.Lists.{every}
 use Rattle.lifting.specs.Control.{targetsDiffer}
 use Rattle.func.specs.Decode.{funcOf}
-use Rattle.control.specs.Loops.{every-next, every-stop, every-done, lineDiffers, counts-at}
+use Rattle.control.specs.Loops.{every-next, every-stop, every-done}
+use Rattle.targets.specs.Lines.{lineDiffers, counts-at}
 use Rattle.control.specs.Tables.{noLine}
-use Rattle.control.proofs.targets_differ.Statement.{statement}
-use Rattle.control.proofs.targets_differ.Tie as tie
+use Rattle.targets.proofs.targets_differ.Statement.{statement}
+use Rattle.targets.proofs.targets_differ.Tie as tie
 
 abbrev Inv-loop : tie.InvT-loop
 Inv-loop func k i₀ i = targetsDiffer (funcOf func) ≡ every lineDiffers (drop i ((funcOf func) .ctrls))

@@ -1,4 +1,4 @@
--- `control::line_differs` meets its contract. Assumes nothing.
+-- `targets::line_differs` meets its contract. Assumes nothing.
 use mathlib.Core.Path.{_≡_, sym, ap, _∙_}
 use mathlib.Core.Bool.{true, not}
 use native.Mathlib.Omega.{arith}
@@ -9,9 +9,9 @@ use borrow.Author.Tests.{not-true, not-false}
 use Rattle.func.specs.Decode.{funcOf}
 use Rattle.func.specs.Kinds.{ctrlKind}
 use Rattle.func.specs.Tables.{ctrlLine}
-use Rattle.control.specs.Loops.{boolTest, bool-two, differs-other, differs-bool}
-use Rattle.control.proofs.line_differs.Statement.{statement}
-use Rattle.control.proofs.line_differs.Tie as tie
+use Rattle.targets.specs.Lines.{boolTest, bool-two, differs-other, differs-bool}
+use Rattle.targets.proofs.line_differs.Statement.{statement}
+use Rattle.targets.proofs.line_differs.Tie as tie
 
 returns : tie.Need-returns
 returns c =
