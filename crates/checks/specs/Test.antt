@@ -1,6 +1,6 @@
 -- Refusals 3 to 7 and 13 in their order, as tests of the function slice's words: what the code computes. specs/Same says that it is the definition.
 -- Assumes nothing.
---     refusalNumber      document 01's numbers
+--     refusalNumber      the numbers of documents 01 and 02
 --     checksTest         the first refusal of 3 to 7 and 13
 --     ChecksSafe         what the code needs to stay within the slice
 use mathlib.Core.Path.{_≡_}

@@ -16,7 +16,7 @@ ghost use lib.ListN.{length};
 ghost use Rattle.lifting.specs.Limits.{scratchWords};
 ghost use Rattle.checks.specs.Test.{refusalNumber, fewTest, checksTest, ChecksSafe};
 
-// Document 01's refusals 1 to 8, and 13.
+// Document 01's refusals 1 to 8, and document 02's 13.
 pub enum Refusal {
     // a text over 32,768 bytes
     Long,
@@ -44,7 +44,7 @@ pub enum Parsed {
     Refused(Refusal),
 }
 
-// Document 01's number.
+// The number in documents 01 and 02.
 pub fn number(r: Refusal) -> u32
     ensures { λ n. ⌜ n ≡ refusalNumber r ⌝ }
 {
