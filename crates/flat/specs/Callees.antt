@@ -1,19 +1,17 @@
 -- The ops of kept blocks are ops of the text, so no callee of theirs is 0. Assumes nothing.
-use mathlib.Core.Path.{refl, subst}
+use mathlib.Core.Path.{refl}
 use mathlib.Core.List.{[], map}
 use Prim.Native.Nat.{ℕ, _<_}
 use lib.ListN.{length}
 use Rattle.lifting.specs.Ast.{Func, Node, block, call, exit, loop, select}
 use Rattle.lifting.specs.Parts.{blockOps, calleeIds, decls, nodeOf, opList, opOf, requiredIds}
-use Rattle.lifting.specs.Order.{roots}
 use Rattle.lifting.specs.Points.{BlockLifting, CfgPoint}
 use Rattle.lifting.specs.Walk.{inBlock, walkOf}
 use Rattle.lifting.specs.Absorb.{kept}
 use Rattle.runs.specs.Members.{All, In, all-append, all-in, in-gather, in-getD, in-right}
 use Rattle.runs.specs.Refers.{Refers}
 use Rattle.runs.specs.Tests.{all-line}
-use Rattle.runs.specs.Each.{Each, each-kept, every-point}
-use Rattle.runs.specs.Shaped.{Shaped, depth, walk-is}
+use Rattle.runs.specs.Each.{Each, each-kept, every-walked}
 
 module _ (F : Func) (refs : Refers F) where
   abbrev Below : ℕ → Type 0
@@ -28,14 +26,14 @@ module _ (F : Func) (refs : Refers F) where
   in-below (loop b c is) n h = tt
   in-below (exit i vs) n h = tt
 
-  walk-below : Shaped F → Each OpsBelow (walkOf F)
+  walk-below : Each OpsBelow (walkOf F)
   unfolding opList
-  walk-below ok = subst (Each OpsBelow) (walk-is F ok) (every-point F (λ x. OpsBelow (x .1)) {R = λ r. Unit {0}} (λ r p t. tt) (λ r p. tt)
-      (λ n. in-below (nodeOf F n) n (all-line Below blockOps (F .nodes) (refs .ops-below) (block []) refl n)) (λ n q. tt) (depth F ok) (roots F) (λ r i. tt))
+  walk-below = every-walked F (λ x. OpsBelow (x .1)) {R = λ r. Unit {0}} (λ r p t. tt) (λ r p. tt)
+      (λ n. in-below (nodeOf F n) n (all-line Below blockOps (F .nodes) (refs .ops-below) (block []) refl n)) (λ n q. tt) (λ r i. tt)
 
-  pub ops-below : Shaped F → (x : CfgPoint × BlockLifting) → In x (kept (walkOf F)) → (i : ℕ) → In i (x .1 .ops) → i < length (F .ops)
-  ops-below ok x h = all-in Below (x .1 .ops)
-      (all-in (λ y. OpsBelow (y .1)) (kept (walkOf F)) (each-kept OpsBelow tt (λ b k. tt) (λ b c k l. all-append Below (b .ops) (c .ops) k l) (walkOf F) (walk-below ok)) x h)
+  pub ops-below : (x : CfgPoint × BlockLifting) → In x (kept (walkOf F)) → (i : ℕ) → In i (x .1 .ops) → i < length (F .ops)
+  ops-below x h = all-in Below (x .1 .ops)
+      (all-in (λ y. OpsBelow (y .1)) (kept (walkOf F)) (each-kept OpsBelow tt (λ b k. tt) (λ b c k l. all-append Below (b .ops) (c .ops) k l) (walkOf F) walk-below) x h)
 
   -- refusal 4: an id is 0 where 0 has no meaning
   pub type-above : 0 < F .type

@@ -5,7 +5,7 @@ use mathlib.Core.Bool.{Bool, true, false}
 use mathlib.Core.List.{List, [], _∷_, _++_, map}
 use mathlib.Core.Logic.{inl, inr}
 use mathlib.Core.Option.{Option, none, some}
-use Prim.Native.Nat.{ℕ, suc}
+use Prim.Native.Nat.{ℕ}
 use native.Mathlib.Omega.{arith}
 use lib.Dec.{eqb}
 use lib.ListN.{length}
@@ -27,11 +27,11 @@ use Rattle.runs.specs.Members.{All, In, NoDup, all-from, all-in, here, in-cases
 use Rattle.runs.specs.Accepted.{FreeKind, FreeOp, WayFit}
 use Rattle.runs.specs.Tests.{both, distinct-once}
 use Rattle.runs.specs.Refers.{refers}
-use Rattle.runs.specs.Fits.{ctrl-counts, ctrl-differs, forest}
+use Rattle.runs.specs.Fits.{ctrl-differs, ctrl-tests, forest}
 use Rattle.runs.specs.Each.{Each, each-kept, every-walked}
 use Rattle.runs.specs.Ids.{label-inj}
 use Rattle.runs.specs.EmitRun.{BlockOk, OpOk, Sound, target-named}
-use Rattle.runs.specs.Listing.{all-blocks, all-body, all-list, free-kind}
+use Rattle.runs.specs.Listing.{all-blocks, all-body, all-list, all-params, all-phis, free-kind}
 
 -- of a conditional branch: a condition and two labels, which differ
 pub record TwoLabels (i : Instruction) : Type 0 where
@@ -72,7 +72,7 @@ ctrl-apart (exitInvocation i) vs to e d = tt
 module _ (F : Func) (references : referencesHold F ≡ true) (tree : isTree F ≡ true) (control : controlFits F ≡ true) (differ : targetsDiffer F ≡ true) where
   root-parted : (r : ℕ) (o : Option ControlInst) → ctrlOf F r ≡ o → let t = rootTerm F o r in Apart (t .kind) (t .ins) (t .targets)
   root-parted r none e = tt
-  root-parted r (some c) e = ctrl-apart (c .kind) (c .ins) (c .to) (ctrl-counts F control r e) (ctrl-differs F differ r e)
+  root-parted r (some c) e = ctrl-apart (c .kind) (c .ins) (c .to) (ctrl-tests F control r e .1) (ctrl-differs F differ r e)
 
   loop-parted : (b : Bool) (n : ℕ) (c : Value) (vs : List Value) → let t = loopTerm F b n c vs in Apart (t .kind) (t .ins) (t .targets)
   loop-parted true n c vs = tt
@@ -146,9 +146,8 @@ module _ (F : Func) (first : ℕ) (T K : Table) (ok : Sound F first T K) where
 
   -- the others are none
   phis-apart : (q : CfgPoint) (ks : List Value) (ds : List Decl) (j : ℕ) → All LabelsDiffer (phiInsts F first T K q ks ds j)
-  unfolding phiInsts phiInst
-  phis-apart q [] ds j = tt
-  phis-apart q (k ∷ ks) ds j = (λ e. absurd (omega (arith, e)), phis-apart q ks ds (suc j))
+  unfolding phiInst
+  phis-apart q = all-phis F first T K LabelsDiffer q (λ v d j e. absurd (omega (arith, e)))
 
   merge-apart : (m : Merge) → All LabelsDiffer (mergeInsts F first T K m)
   unfolding mergeInsts
@@ -161,9 +160,8 @@ module _ (F : Func) (first : ℕ) (T K : Table) (ok : Sound F first T K) where
   label-apart q e = absurd (omega (arith, e))
 
   params-apart : (ds : List Decl) (i : ℕ) → All LabelsDiffer (paramInsts F first T K ds i)
-  unfolding paramInsts paramInst
-  params-apart [] i = tt
-  params-apart (d ∷ ds) i = (λ e. absurd (omega (arith, e)), params-apart ds (suc i))
+  unfolding paramInst
+  params-apart = all-params F first T K LabelsDiffer (λ d i e. absurd (omega (arith, e)))
 
   block-apart : (q : CfgPoint) (b : BlockLifting) → BlockOk F first T K b → Parted b → All LabelsDiffer (bodyInsts F first T K q b)
   block-apart q b h a = all-body F first T K LabelsDiffer q b (phis-apart q (b .keys) (b .decls) 0) (ops-apart (b .ops) (h .ops-ok)) (merge-apart (b .term .merge)) (term-apart b h a)

@@ -151,7 +151,7 @@ module _ (F : Func) (ok : Shaped F) (refs : Refers F) (first : ℕ) (num : Numbe
       op-whole : (o : ℕ) → In o (b .ops) → (n : ℕ) → In n (opInst F first T K o .ids) → 0 < n
       unfolding opInst
       op-whole o i n j = elim (in-split (calleeIds (opOf F o .kind)) (map id (opOf F o .operands)) j) [
-        | inl k ↦ callee-above F refs o (ops-below F refs ok x h o i) n k
+        | inl k ↦ callee-above F refs o (ops-below F refs x h o i) n k
         | inr k ↦ (let w = map-in id (opOf F o .operands) k in omega (arith, w .2, set (w .0) (in-uses x h (w .0) (in-left _ (in-gather (λ z. opOf F z .operands) i (w .1))))))
       ]
 

@@ -10,7 +10,6 @@ use lib.Dec.{T as Holds, eqb→eq}
 use Rattle.lifting.specs.Lists.{find, gather, tabulate}
 use Rattle.lifting.specs.Ast.{Func, Node, Value, const, dataInstOutput, loop, nodeOutput, regionInput}
 use Rattle.lifting.specs.Parts.{constOf, hasBody, nodeOf, opOf, outsOf, regionOf, valsOr}
-use Rattle.lifting.specs.Order.{roots}
 use Rattle.lifting.specs.Points.{BlockLifting, CfgPoint, Table, blockAt, blockOr, edgeOf, eqPoint}
 use Rattle.lifting.specs.Walk.{Place, always, entryBlock, inBlock, inNode, top, walkOf}
 use Rattle.lifting.specs.Absorb.{absorb, kept, useCount}
@@ -31,10 +30,9 @@ use Rattle.runs.specs.EmitRun.{BlockOk, KnownResult, OpOk, Sound, all-fi
 use Rattle.runs.specs.Start.{kept-listing, param-named, regions-listing}
 use Rattle.runs.specs.Tour.{find-unique}
 use Rattle.runs.specs.Tests.{find-in}
-use Rattle.runs.specs.Each.{every-point}
-use Rattle.runs.specs.Order.{roots-ok}
+use Rattle.runs.specs.Each.{every-walked}
 use Rattle.runs.specs.Terms.{TermOk}
-use Rattle.runs.specs.Shaped.{Shaped, laid, shaped-accepted, terms, tidy, walk-is}
+use Rattle.runs.specs.Shaped.{Shaped, laid, shaped-accepted, terms, tidy}
 use Rattle.runs.specs.KeptTerms.{SameKeys, Shape, absorb-shape, in-keep, in-uses, same-some, some-same}
 
 -- any world will do: what the emitter needs of the blocks does not depend on it
@@ -98,8 +96,8 @@ module _ (F : Func) (first : ℕ) (ok : Accepted F first) (body : hasBody (F .re
   in-keys n (Node.exit i vs) = tt
 
   pub keys-plain : All (λ (x : CfgPoint × BlockLifting). All NoCon (x .1 .keys)) T
-  keys-plain = subst (All (λ (x : CfgPoint × BlockLifting). All NoCon (x .1 .keys))) (walk-is F shaped) (every-point F (λ (x : CfgPoint × BlockLifting). All NoCon (x .1 .keys)) (λ r p t. entry-keys r p) (λ r p. tt) (λ n. in-keys n (nodeOf F n))
-      (λ n q. from-out n 0 (length (outsOf (nodeOf F n)))) (suc (length (F .regions))) (roots F) (roots-ok F (ok .targets) .no-child))
+  keys-plain = every-walked F (λ (x : CfgPoint × BlockLifting). All NoCon (x .1 .keys)) {R = λ r. Unit {0}} (λ r p t. entry-keys r p) (λ r p. tt) (λ n. in-keys n (nodeOf F n))
+      (λ n q. from-out n 0 (length (outsOf (nodeOf F n)))) (λ r i. tt)
 
   -- phis of the walk and results of kept blocks have names
   known-phi : (v : Value) → NoCon v → In v (phiKeys T) → Known F first T K v

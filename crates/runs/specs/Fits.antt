@@ -111,21 +111,19 @@ module _ (F : Func) where
         not-child 0 (body-free .1),
       )
 
-  -- 7, at a ctrl line: its targets, and how many inputs and targets it has
+  -- 7, at each ctrl line: its targets, and how many inputs and targets it has
   abbrev aimed : ℕ → Bool
   aimed s = ltb 0 s && isRoot F s
 
-  ctrl-tests : controlFits F ≡ true → (r : ℕ) {c : ControlInst} → ctrlOf F r ≡ some c → (every aimed (c .to) ≡ true) × (kindFits (c .kind) (length (c .ins)) (length (c .to)) ≡ true)
+  pub line-tests : controlFits F ≡ true → All (λ x. (every aimed (x .1 .to) ≡ true) × (kindFits (x .1 .kind) (length (x .1 .ins)) (length (x .1 .to)) ≡ true)) (F .ctrls)
   unfolding controlFits
-  ctrl-tests control r {c} e =
-      let first = every aimed (c .to) in
-      let tests = both (distinct (keys (F .ctrls)) && _ && _) _ control in
-      let fits = every-in (λ x. ctrlFits F (x .1)) (F .ctrls) (tests .1) (r, c) (find-in ℕ-discrete r (F .ctrls) e) in
+  line-tests control = every-all (λ x. ctrlFits F (x .1)) _ (λ x fits.
+      let first = every aimed (x .1 .to) in
       let ways = both (first && _ && _) _ fits in
-      (both first _ (both (first && _) _ (ways .0) .0) .0, ways .1)
+      (both first _ (both (first && _) _ (ways .0) .0) .0, ways .1)) (F .ctrls) (both (distinct (keys (F .ctrls)) && _ && _) _ control .1)
 
-  pub ctrl-counts : controlFits F ≡ true → (r : ℕ) {c : ControlInst} → ctrlOf F r ≡ some c → kindFits (c .kind) (length (c .ins)) (length (c .to)) ≡ true
-  ctrl-counts control r e = ctrl-tests control r e .1
+  pub ctrl-tests : controlFits F ≡ true → (r : ℕ) {c : ControlInst} → ctrlOf F r ≡ some c → (every aimed (c .to) ≡ true) × (kindFits (c .kind) (length (c .ins)) (length (c .to)) ≡ true)
+  ctrl-tests control r {c} e = all-in _ (F .ctrls) (line-tests control) (r, c) (find-in ℕ-discrete r (F .ctrls) e)
 
   ctrl-fits : controlFits F ≡ true → (r : ℕ) {c : ControlInst} → ctrlOf F r ≡ some c → All (λ s. (0 < s) × Root F s) (c .to) × WayFit (c .kind) (length (c .to))
   ctrl-fits control r {c} e =

@@ -16,7 +16,7 @@ use Rattle.lifting.specs.Ast.{ControlInstKind, DataInstKind, Decl, Func, Value,
 use Rattle.lifting.specs.Parts.{opOf}
 use Rattle.lifting.specs.Points.{BlockLifting, CfgPoint, Merge, Table, Terminator, loopMerge, noMerge, selectionMerge}
 use Rattle.lifting.specs.Ids.{idOf, labelOf}
-use Rattle.lifting.specs.Instructions.{Instruction, blockInsts, bodyInsts, endInst, functionInst, instructions, labelInst, mergeInsts, opInst, opOpcode, paramInsts, phiInsts, termInst, termOpcode}
+use Rattle.lifting.specs.Instructions.{Instruction, blockInsts, bodyInsts, endInst, functionInst, instructions, labelInst, mergeInsts, opInst, opOpcode, paramInst, paramInsts, phiInst, phiInsts, termInst, termOpcode}
 use Rattle.lifting.specs.BlockRun.{Parts, addPart, consIf, isKind, isMerge, paramsIn, parts, phisOf, runOf}
 use Rattle.runs.specs.Members.{All, all-append, all-left, all-right}
 use Rattle.runs.specs.Accepted.{FreeKind, FreeOp}
@@ -130,15 +130,39 @@ free-op : (e : Instruction) → within (e .opcode) table ≡ false → OpLike e
 free-op e f = (free-kind (e .opcode) Phi f, rw (free-kind (e .opcode) LoopMerge f) (free-kind (e .opcode) SelectionMerge f))
 
 module _ (F : Func) (first : ℕ) (T K : Table) where
+  -- what holds of each instruction, kind by kind
+  module _ (P : Instruction → Type 0) where
+    pub all-phis : (q : CfgPoint) → ((v : Value) (d : Decl) (j : ℕ) → P (phiInst F first T K q v d j)) → (ks : List Value) (ds : List Decl) (j : ℕ) → All P (phiInsts F first T K q ks ds j)
+    unfolding phiInsts
+    all-phis q h [] ds j = tt
+    all-phis q h (k ∷ ks) ds j = (h k _ j, all-phis q h ks ds (suc j))
+
+    pub all-params : ((d : Decl) (i : ℕ) → P (paramInst F first T K d i)) → (ds : List Decl) (i : ℕ) → All P (paramInsts F first T K ds i)
+    unfolding paramInsts
+    all-params h [] i = tt
+    all-params h (d ∷ ds) i = (h d i, all-params h ds (suc i))
+
+    pub all-body : (q : CfgPoint) (b : BlockLifting) → All P (phiInsts F first T K q (b .keys) (b .decls) 0) → All P (map (opInst F first T K) (b .ops))
+        → All P (mergeInsts F first T K (b .term .merge)) → P (termInst F first T K (b .term)) → All P (bodyInsts F first T K q b)
+    unfolding bodyInsts
+    all-body q b hp ho hm ht = all-append P (phiInsts F first T K q (b .keys) (b .decls) 0) _ hp (all-append P (map (opInst F first T K) (b .ops)) _ ho (all-append P (mergeInsts F first T K (b .term .merge)) _ hm (ht, tt)))
+
+    pub all-blocks : (L : Table) → All (λ (x : CfgPoint × BlockLifting). P (labelInst F first T K (x .0)) × All P (bodyInsts F first T K (x .0) (x .1))) L → All P (blockInsts F first T K L)
+    unfolding blockInsts
+    all-blocks [] h = tt
+    all-blocks (x ∷ L) h = (h .0 .0, all-append P (bodyInsts F first T K (x .0) (x .1)) _ (h .0 .1) (all-blocks L (h .1)))
+
+    pub all-list : P (functionInst F first T K) → All P (paramInsts F first T K (F .params) 0) → All P (blockInsts F first T K K) → P (endInst F first T K) → All P (instructions F first T K)
+    unfolding instructions
+    all-list hf hp hb he = (hf, all-append P (paramInsts F first T K (F .params) 0) _ hp (all-append P (blockInsts F first T K K) _ hb (he, tt)))
+
   phis-inside : (q : CfgPoint) (ks : List Value) (ds : List Decl) (j : ℕ) → All Inside (phiInsts F first T K q ks ds j)
-  unfolding phiInsts
-  phis-inside q [] ds j = tt
-  phis-inside q (k ∷ ks) ds j = ((refl, refl), phis-inside q ks ds (suc j))
+  unfolding phiInst
+  phis-inside q = all-phis Inside q (λ v d j. (refl, refl))
 
   phis-like : (q : CfgPoint) (ks : List Value) (ds : List Decl) (j : ℕ) → All PhiLike (phiInsts F first T K q ks ds j)
-  unfolding phiInsts
-  phis-like q [] ds j = tt
-  phis-like q (k ∷ ks) ds j = (refl, phis-like q ks ds (suc j))
+  unfolding phiInst
+  phis-like q = all-phis PhiLike q (λ v d j. refl)
 
   one-op : (e : Instruction) (k : DataInstKind) → e .opcode ≡ opOpcode k → FreeOp k → Inside e × OpLike e
   one-op e (inst i) q h = let f : within (e .opcode) table ≡ false = ap (λ (n : ℕ). within n table) q ∙ h in (free-inside e f, free-op e f)
@@ -185,22 +209,6 @@ module _ (F : Func) (first : ℕ) (T K : Table) where
   abbrev merges : BlockLifting → List Instruction
   merges b = mergeInsts F first T K (b .term .merge)
 
-  -- what holds of each instruction, kind by kind
-  module _ (P : Instruction → Type 0) where
-    pub all-body : (q : CfgPoint) (b : BlockLifting) → All P (phiInsts F first T K q (b .keys) (b .decls) 0) → All P (map (opInst F first T K) (b .ops))
-        → All P (mergeInsts F first T K (b .term .merge)) → P (termInst F first T K (b .term)) → All P (bodyInsts F first T K q b)
-    unfolding bodyInsts
-    all-body q b hp ho hm ht = all-append P (phis q b) _ hp (all-append P (ops b) _ ho (all-append P (merges b) _ hm (ht, tt)))
-
-    pub all-blocks : (L : Table) → All (λ (x : CfgPoint × BlockLifting). P (labelInst F first T K (x .0)) × All P (bodyInsts F first T K (x .0) (x .1))) L → All P (blockInsts F first T K L)
-    unfolding blockInsts
-    all-blocks [] h = tt
-    all-blocks (x ∷ L) h = (h .0 .0, all-append P (bodyInsts F first T K (x .0) (x .1)) _ (h .0 .1) (all-blocks L (h .1)))
-
-    pub all-list : P (functionInst F first T K) → All P (paramInsts F first T K (F .params) 0) → All P (blockInsts F first T K K) → P (endInst F first T K) → All P (instructions F first T K)
-    unfolding instructions
-    all-list hf hp hb he = (hf, all-append P (paramInsts F first T K (F .params) 0) _ hp (all-append P (blockInsts F first T K K) _ hb (he, tt)))
-
   body-inside : (q : CfgPoint) (b : BlockLifting) → Free b → All Inside (bodyInsts F first T K q b)
   body-inside q b h =
       all-body Inside q b (phis-inside q (b .keys) (b .decls) 0) (all-left Inside OpLike (ops b) (ops-fine (b .ops) (h .0)))
@@ -246,9 +254,8 @@ module _ (F : Func) (first : ℕ) (T K : Table) where
       ∙ ap (λ (l : List Instruction). record { before = []; blocks = (labelOf F first T K (x .0), l) ∷ blocksFor L }) (append-nil body)
 
   params-inside : (ds : List Decl) (i : ℕ) → All Inside (paramInsts F first T K ds i)
-  unfolding paramInsts
-  params-inside [] i = tt
-  params-inside (d ∷ ds) i = ((refl, refl), params-inside ds (suc i))
+  unfolding paramInst
+  params-inside = all-params Inside (λ d i. (refl, refl))
 
   params-ids : (ds : List Decl) (i : ℕ) → paramsIn (paramInsts F first T K ds i ++ []) ≡ map (idOf F first T K) (tabulate (regionInput 0) i (length ds))
   unfolding paramInsts
