@@ -5,20 +5,23 @@
 use mathlib.Core.Path.{_≡_, refl, sym, ap, _∙_}
 use mathlib.Core.Bool.{Bool, true, false, not, _&&_, false≢true}
 use mathlib.Core.List.{List, [], _∷_}
-use Prim.Native.Nat.{ℕ, _<_}
+use Prim.Native.Nat.{ℕ}
 use native.Mathlib.Decide.{ℕ-discrete}
 use native.Mathlib.Omega.{arith}
-use lib.Dec.{eqb, ltb}
+use lib.Dec.{eqb}
 use lib.ListN.{length, getD}
 use borrow.Author.Tests.{eq-eqb, ne-eqb, eqb-true}
-use Rattle.lifting.specs.Lists.{choose, every, distinct, keys}
+use Rattle.lifting.specs.Lists.{choose, distinct}
 use Rattle.lifting.specs.Ast.{boolCond, spvInst, ControlInstKind, unreachable, return, branch, selectBranch, exitInvocation, ControlInst, Func}
-use Rattle.lifting.specs.Control.{boolDistinct, kindFits, isRoot, ctrlFits, controlFits}
+use Rattle.lifting.specs.Control.{boolDistinct, kindFits, controlFits}
 use Rattle.func.specs.declared.CtrlKind.{CtrlKind}
 use Rattle.func.specs.declared.CtrlKind.the-variants.{Unreachable, Return, Branch, Bool as BoolCtrl, Inst as InstCtrl, Exit as ExitCtrl}
 use Rattle.func.specs.Kinds.{ctrlKind}
-use Rattle.func.specs.Lists.{both, every-at}
+use Rattle.func.specs.Lists.{both}
 use Rattle.control.specs.Tables.{noLine}
+use Rattle.runs.specs.Members.{all-right}
+use Rattle.runs.specs.Tests.{all-at}
+use Rattle.runs.specs.Fits.{line-tests}
 
 -- a `bool` ctrl; a line whose counts fit its kind; one that does not name one target twice by `bool`
 abbrev pub boolTest : CtrlKind → Bool
@@ -69,8 +72,5 @@ pub differs-bool : (x : ℕ × ControlInst) → boolTest (ctrlKind (x .1 .kind))
 differs-bool x e h = differ-two (x .1 .to) (bool-two x e h) ∙ sym (ap (λ k. boolDistinct k (x .1 .to)) (bool-is (x .1 .kind) e))
 
 -- a line of a text that passes 7
-pub counts-at : (F : Func) → controlFits F ≡ true → (i : ℕ) → i < length (F .ctrls) → lineCounts (getD (F .ctrls) i noLine) ≡ true
-unfolding controlFits
-counts-at F e i h =
-    let fits = every-at (λ c. ctrlFits F (c .1)) (F .ctrls) (both (distinct (keys (F .ctrls)) && _ && _) _ e .1) i noLine h in
-    both (every (λ r. ltb 0 r && isRoot F r) (getD (F .ctrls) i noLine .1 .to) && _ && _) _ fits .1
+pub counts-at : (F : Func) → controlFits F ≡ true → (i : ℕ) → lineCounts (getD (F .ctrls) i noLine) ≡ true
+counts-at F e i = all-at (λ x. lineCounts x ≡ true) (F .ctrls) (all-right _ _ (F .ctrls) (line-tests F e)) noLine refl i

@@ -1,8 +1,8 @@
 -- `targets::targets_differ` meets its contract. Assumes nothing.
 use mathlib.Core.Path.{_≡_, refl, sym, _∙_}
-use Prim.Native.Nat.{_-_, _<_}
+use Prim.Native.Nat.{_-_}
 use native.Mathlib.Omega.{arith}
-use lib.ListN.{length, drop}
+use lib.ListN.{drop}
 use borrow.Author.Needs.{needs}
 use borrow.Author.Tests.{not-true, not-false}
 use Rattle.lifting.specs.Lists.{every}
@@ -27,8 +27,7 @@ loop-holds c = refl
 line-differs-requires : tie.Need-line-differs-requires Inv-loop μ-loop
 line-differs-requires c κs =
     let s = c .before .before .before .before in
-    let h : c .before .loop .i < length (funcOf (s .args .func .now) .ctrls) = omega (arith, c .before .before .ctrl-total .ensures) in
-    (s .pre .0, (h, counts-at (funcOf (s .args .func .now)) (s .pre .1) (c .before .loop .i) h))
+    (s .pre .0, (omega (arith, c .before .before .ctrl-total .ensures), counts-at (funcOf (s .args .func .now)) (s .pre .1) (c .before .loop .i)))
 
 returns : tie.Need-returns Inv-loop μ-loop
 returns c =
