@@ -1,6 +1,6 @@
 -- `answers::put_line` meets its contract: each case writes the bytes of its line. Assumes nothing.
 use mathlib.Core.Path.{sym, ap, _∙_}
-use mathlib.Core.List.{List, _++_}
+use mathlib.Core.List.{_++_}
 use Prim.Native.Nat.{ℕ}
 use borrow.Author.Needs.{needs}
 use Rattle.lifting.specs.Bytes.{bytes}
