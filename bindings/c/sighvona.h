@@ -15,7 +15,7 @@
 
 /* The version of this header, and the number of it that `sighvona_version` gives for the library's. Macros, so that #if can ask. */
 #define SIGHVONA_VERSION_MAJOR 0
-#define SIGHVONA_VERSION_MINOR 4
+#define SIGHVONA_VERSION_MINOR 5
 #define SIGHVONA_VERSION_PATCH 0
 #define SIGHVONA_VERSION (SIGHVONA_VERSION_MAJOR * 65536u + SIGHVONA_VERSION_MINOR * 256u + SIGHVONA_VERSION_PATCH)
 
@@ -51,9 +51,10 @@ enum sighvona_answer {
     /* a node doesn't stand exactly once in all regions' lists, or an op exactly once in all blocks' lists; a region is child of two places,
      * or of itself, directly or through others; region 0 is a child; without ctrl lines, another region is no child */
     SIGHVONA_TREE = 5,
-    /* unequal counts: region 0's inputs and the params; a loop's inits, its body's inputs, its body's outputs; case outputs and outs. Also a
-     * case with inputs; region 0's outputs over 1, or any with ctrl lines; `bool` without 2 cases; another select without cases; each
-     * edge-value entry and the inputs of the region it names, where a target without an entry has zero values */
+    /* unequal counts: region 0's inputs and the params; a loop's inits, its body's inputs, its body's outputs; case outputs and outs, where a
+     * case whose last node is an exit may have no outputs at all. Also a case with inputs; region 0's outputs over 1, or any with ctrl lines;
+     * `bool` without 2 cases; another select without cases; each edge-value entry and the inputs of the region it names, where a target
+     * without an entry has zero values */
     SIGHVONA_COUNTS = 6,
     /* ctrl: twice for a region; on a child; missing on a reached root; a target that is region 0 or a child; values twice for a target, or
      * for a region that is no target; inputs or targets that the kind doesn't have, or too few of them */

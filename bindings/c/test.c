@@ -21,6 +21,12 @@
 #define TWO_REGIONS FUNC "(const 5 43)\n" EMPTY EMPTY
 /* region 0 goes to region 1 twice, by a `bool` or an INST, and region 1 returns */
 #define TWICE(kind) TWO_REGIONS "(ctrl 0 0 " kind " (ins (c 0)) (to 1 1) (vals))\n(ctrl 1 0 return (ins) (to) (vals))\n"
+/* a select with one out, its cases, and the nodes from 1 on; a case that gives it, and one with these nodes and outputs */
+#define SELECT(first, second) \
+    FUNC "(const 5 43)\n(region (in) (nodes 0) (out (n 0 0)))\n" first second "(select bool (c 0) (cases 1 2) (outs (0 4)))\n"
+#define GIVES "(region (in) (nodes) (out (c 0)))\n"
+#define ENDS(nodes, outputs) "(region (in) (nodes " nodes ") (out" outputs "))\n"
+#define EXIT "(exit (inst 252))\n"
 
 static const struct {
     uint32_t opcode, attributes, result_type, result, immediates, immediate[3], ids, id[2];
@@ -57,6 +63,8 @@ static const struct refused {
     {SIGHVONA_TREE, "a node twice", 10, FUNC "(region (in) (nodes 0 0) (out))\n(block)\n", "", 0},
     {SIGHVONA_COUNTS, "a param without an input", 10, FUNC "(param 0 2)\n" EMPTY, "", 0},
     {SIGHVONA_COUNTS, "an input without a param", 10, FUNC "(region (in (0 4)) (nodes) (out))\n", "", 0},
+    {SIGHVONA_COUNTS, "a case without outputs that ends in a block", 10, SELECT(GIVES, ENDS("1 2", "")) EXIT "(block)\n", "", 0},
+    {SIGHVONA_COUNTS, "a case with too many outputs that ends in an exit", 10, SELECT(GIVES, ENDS("1", " (c 0) (c 0)")) EXIT, "", 0},
     {SIGHVONA_CONTROL, "a branch without a target", 10, FUNC EMPTY "(ctrl 0 0 branch (ins) (to) (vals))\n", "", 0},
     {SIGHVONA_CONTROL, "two ctrl lines for a region", 10, FUNC EMPTY, "(ctrl 0 0 return (ins) (to) (vals))\n", 2},
     {SIGHVONA_CONTROL, "equal targets that are region 0", 10, FUNC "(const 5 43)\n" EMPTY "(ctrl 0 0 bool (ins (c 0)) (to 0 0) (vals))\n", "", 0},
@@ -220,6 +228,32 @@ static void equal_targets(void) {
     read_alone(0, text, strlen(text), WORDS, WORDS);
 }
 
+/* A case that ends in an exit and has no outputs gives no pair to the select's phi. */
+static void killed_case(void) {
+    static const struct {
+        const char *text;
+        uint32_t ids;
+    } TEXTS[] = {
+        {SELECT(GIVES, ENDS("1", "")) EXIT, 2},
+        {SELECT(ENDS("1", ""), GIVES) EXIT, 2},
+        {SELECT(ENDS("1", ""), ENDS("2", "")) EXIT EXIT, 0},
+    };
+    about = "a case that ends in an exit";
+    for (size_t i = 0; i < COUNT(TEXTS); i++) {
+        struct sighvona_inst inst;
+        size_t at = 0, after, phis = 0;
+        lift(SIGHVONA_LIFTED, TEXTS[i].text, strlen(TEXTS[i].text), 10, WORDS, WORDS, WORDS);
+        for (; (after = sighvona_next(out, words, at, &inst)) != 0; at = after) {
+            if (inst.opcode == 245) {
+                phis++;
+                expect(inst.ids == TEXTS[i].ids, "the pairs of the phi");
+            }
+        }
+        expect(phis == 1, "one phi");
+        read_alone(0, TEXTS[i].text, strlen(TEXTS[i].text), WORDS, WORDS);
+    }
+}
+
 /* A text that is refused: with output slices of any length, but 8 comes first. */
 static void refused(const struct refused *given) {
     static char text[SIGHVONA_TEXT_BYTES + 100];
@@ -276,10 +310,11 @@ static void stepping(void) {
 int main(void) {
     about = "the version";
     expect(sighvona_version() == SIGHVONA_VERSION, "the library's is the header's");
-    expect(SIGHVONA_VERSION == 1024, "0.4.0 as a number");
+    expect(SIGHVONA_VERSION == 1280, "0.5.0 as a number");
     listing();
     highest_id();
     equal_targets();
+    killed_case();
     for (size_t i = 0; i < COUNT(REFUSED); i++) {
         refused(&REFUSED[i]);
     }

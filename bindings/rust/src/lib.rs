@@ -45,7 +45,7 @@ use std::fmt;
 
 /// The version that this crate is for: major * 65,536 + minor * 256 + patch. [`library_version`]
 /// tells that of the archive that was linked.
-pub const VERSION: u32 = version(0, 4, 0);
+pub const VERSION: u32 = version(0, 5, 0);
 
 const fn version(major: u32, minor: u32, patch: u32) -> u32 {
     major * 65_536 + minor * 256 + patch
@@ -110,7 +110,8 @@ pub enum Refusal {
     /// 5: nodes, ops and regions are no tree: each node, op and child region must stand in one
     /// place.
     Tree,
-    /// 6: unequal counts, as of a loop's inits and its body's inputs.
+    /// 6: unequal counts, as of a loop's inits and its body's inputs. A case whose last node is an
+    /// exit may have no outputs at all.
     Counts,
     /// 7: something about ctrl lines, as a second one for a region, or a target that is a child.
     Control,

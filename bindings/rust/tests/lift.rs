@@ -141,6 +141,45 @@ fn refusals() {
     assert_eq!(refusal(10, empty), (11, Refusal::Output { wanted: 28 }));
 }
 
+/// A select by `bool` with one out, whose two cases have these nodes and outputs; node 1 is an exit
+/// and node 2 is another or an empty block.
+fn select(cases: [(&str, &str); 2], node: &str) -> String {
+    let [first, second] = cases.map(|(nodes, out)| format!("(region (in) (nodes{nodes}) (out{out}))\n"));
+    format!(
+        "(const 5 43)\n(region (in) (nodes 0) (out (n 0 0)))\n{first}{second}\
+        (select bool (c 0) (cases 1 2) (outs (0 4)))\n(exit (inst 252))\n{node}"
+    )
+}
+
+/// A case that ends in an exit may have no outputs, and gives no pair to the select's phi.
+#[test]
+fn killed_case() {
+    let exit = "(exit (inst 252))\n";
+    let gives = ("", " (c 0)");
+    let texts = [
+        (select([(" 1", ""), gives], ""), 2),
+        (select([gives, (" 1", "")], ""), 2),
+        (select([(" 1", ""), (" 2", "")], exit), 0),
+        (select([(" 1", " (c 0)"), (" 2", "")], exit), 0),
+    ];
+    for (rest, ids) in texts {
+        let text = format!("(func 0 2 3 0)\n{rest}");
+        let mut out = vec![0; MAX_WORDS];
+        let lifted = lift(text.as_bytes(), 10, &mut Scratch::new(), &mut out).expect(&rest);
+        let phis = instructions(&out[..lifted.words]).filter(|i| i.opcode == 245);
+        assert_eq!(phis.map(|i| i.ids.len()).collect::<Vec<_>>(), [ids]);
+        assert_eq!(read(text.as_bytes(), &mut Scratch::new()), Ok(()));
+    }
+    let refused = [
+        select([(" 1 2", ""), gives], "(block)\n"),
+        select([(" 2 1", " (c 0) (c 0)"), gives], "(block)\n"),
+        select([("", ""), (" 1", "")], ""),
+    ];
+    for rest in refused {
+        assert_eq!(refusal(10, &rest), (6, Refusal::Counts));
+    }
+}
+
 /// Texts that give so many ids: the last one may be the highest, and is refused beyond it.
 #[test]
 fn highest_id() {
@@ -222,7 +261,7 @@ fn steps_through_any_words() {
 #[test]
 fn version() {
     assert_eq!(sighvona::library_version(), sighvona::VERSION);
-    assert_eq!(sighvona::VERSION, 1024);
+    assert_eq!(sighvona::VERSION, 1280);
     let [major, minor, patch] = [16, 8, 0].map(|bits| sighvona::VERSION >> bits & 255);
     assert_eq!(format!("{major}.{minor}.{patch}"), env!("CARGO_PKG_VERSION"));
 }

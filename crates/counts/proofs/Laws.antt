@@ -1,16 +1,16 @@
 -- What the proofs of this crate cite, over plain variables. Assumes nothing.
 use mathlib.Core.Path.{_≡_, refl, sym, ap, _∙_}
-use mathlib.Core.Bool.{Bool, true, false, cond, _&&_}
+use mathlib.Core.Bool.{Bool, true, false, cond, _&&_, _||_}
 use mathlib.Core.List.{List}
 use Prim.Native.Nat.{ℕ, suc, _+_, _-_, _/_, _≤_, _<_}
 use native.Mathlib.Omega.{arith}
 use lib.Dec.{eqb, leb, ltb, lit<}
 use borrow.Author.Tests.{eq-eqb, ne-eqb, lt-ltb, le-ltb}
 use Rattle.lifting.specs.Lists.{tabulate, below, every}
-use Rattle.func.specs.Layout.{params, childRefs, regions, nodes, ctrls}
+use Rattle.func.specs.Layout.{params, nodeRefs, childRefs, regions, nodes, ctrls}
 use Rattle.func.specs.Store.{count}
 use Rattle.func.specs.Tables.{Within, word}
-use Rattle.counts.specs.Test.{insIn, resultsIn, valuesIn, childrenIn, outsIn, childIn, caseTest, bodyTest, casesTest, kindTest, nodeTest, nodesTest, resultsTest, funcTest, countsTest, CountsSafe}
+use Rattle.counts.specs.Test.{insIn, resultsIn, valuesIn, childrenIn, outsIn, childIn, nodesIn, nodeIn, endsAt, endsTest, outsTest, caseTest, bodyTest, casesTest, kindTest, nodeTest, nodesTest, resultsTest, funcTest, countsTest, CountsSafe}
 
 -- rows that may be read: a node, its child i, and the region that this is
 module _ {w : List ℕ} (s : CountsSafe w) where
@@ -30,6 +30,26 @@ module _ {w : List ℕ} (s : CountsSafe w) where
     pub case-in : {c : ℕ} → c ≡ childIn w n i → Within regions w c
     case-in e = region-in (omega (arith, s .child-low (word nodes w n 5 / 4096 + i) child-below))
 
+  module _ {r i : ℕ} (h : r < count regions w) (l : i < nodesIn w r) where
+    ref-below : word regions w r 1 / 4096 + i < count nodeRefs w
+    ref-below = omega (arith, s .node-runs r h)
+
+    pub ref-in : (i ≤ 4095) × Within nodeRefs w (word regions w r 1 / 4096 + i)
+    ref-in = (omega arith, record { size = s .size; pool = lit< tt; fits = s .ref-room; below = ref-below })
+
+    pub last-in : {n : ℕ} → n ≡ nodeIn w r i → Within nodes w n
+    last-in e = node-in (omega (arith, s .node-low (word regions w r 1 / 4096 + i) ref-below))
+
+-- the last of region r's m nodes is an exit: its kind's number is 4
+module _ (w : List ℕ) (r : ℕ) {m : ℕ} (e : m ≡ nodesIn w r) where
+  pub ends-none : m ≡ 0 → false ≡ endsTest w r
+  ends-none z = ap (endsAt w r) (sym z ∙ e)
+
+  pub ends-last : {n k i : ℕ} → (m ≡ 0 → ⊥) → i ≡ m - 1 → n ≡ nodeIn w r i → k ≡ word nodes w n 0 → eqb k 4 ≡ endsTest w r
+  ends-last {n} {k} {i} z f g q =
+      let next : suc i ≡ nodesIn w r = omega arith in
+      ap (λ (x : ℕ). eqb x 4) (q ∙ ap (λ (x : ℕ). word nodes w x 0) g) ∙ ap (endsAt w r) next
+
 -- two numbers that are compared before the rest
 pub differ : {a b x y : ℕ} (t : Bool) → x ≡ a → y ≡ b → (x ≡ y → ⊥) → false ≡ (eqb a b && t)
 differ {a} {b} t e f n = ap (λ (z : Bool). z && t) (sym (ne-eqb a b (λ q. n (e ∙ q ∙ sym f))))
@@ -43,10 +63,23 @@ module _ (w : List ℕ) (n : ℕ) {c x y : ℕ} (e : x ≡ c) (f : y ≡ insIn w
   ins-is = f ∙ ap (insIn w) e
 
   pub case-stop : (y ≡ 0 → ⊥) → false ≡ caseTest w n c
-  case-stop = differ (eqb (resultsIn w c) (outsIn w n)) ins-is refl
+  case-stop = differ (outsTest w n c) ins-is refl
 
-  pub case-rest : {r o : ℕ} → y ≡ 0 → r ≡ resultsIn w x → o ≡ outsIn w n → eqb r o ≡ caseTest w n c
-  case-rest q g p = agree ins-is refl q (λ k. eqb ((g ∙ ap (resultsIn w) e) k) (p k))
+  module _ (q : y ≡ 0) {r o : ℕ} (g : r ≡ resultsIn w x) (p : o ≡ outsIn w n) where
+    results-is : r ≡ resultsIn w c
+    results-is = g ∙ ap (resultsIn w) e
+
+    pub case-same : r ≡ o → true ≡ caseTest w n c
+    case-same z = agree ins-is refl q (ap (λ (b : Bool). b || (eqb (resultsIn w c) 0 && endsTest w c)) (sym (eq-eqb (resultsIn w c) (outsIn w n) (sym results-is ∙ z ∙ p))))
+
+    others : (r ≡ o → ⊥) → (eqb (resultsIn w c) 0 && endsTest w c) ≡ outsTest w n c
+    others z = ap (λ (b : Bool). b || (eqb (resultsIn w c) 0 && endsTest w c)) (sym (ne-eqb (resultsIn w c) (outsIn w n) (λ k. z (results-is ∙ k ∙ sym p))))
+
+    pub case-some : (r ≡ o → ⊥) → (r ≡ 0 → ⊥) → false ≡ caseTest w n c
+    case-some z u = agree ins-is refl q (differ (endsTest w c) results-is refl u ∙ others z)
+
+    pub case-ends : {b : Bool} → (r ≡ o → ⊥) → r ≡ 0 → b ≡ endsTest w x → b ≡ caseTest w n c
+    case-ends z u t = agree ins-is refl q (agree results-is refl u (t ∙ ap (endsTest w) e) ∙ others z)
 
   pub body-stop : {v : ℕ} → v ≡ valuesIn w n → (v ≡ y + 1 → ⊥) → false ≡ bodyTest w n c
   body-stop g = differ (eqb (resultsIn w c) (insIn w c)) g (ap (λ (z : ℕ). z + 1) ins-is)

@@ -2,9 +2,9 @@
 --     counts-safe     the code stays within the slice
 --     counts-test     what it computes, with what the reader judged of ctrl lines, is refusal 6
 use mathlib.Core.Path.{_≡_, refl, sym, ap, subst, _∙_}
-use mathlib.Core.Bool.{Bool, true, false, not, cond, _&&_, and-comm}
+use mathlib.Core.Bool.{Bool, true, false, not, cond, _&&_, _||_, and-comm}
 use mathlib.Core.List.{List, [], _∷_, _++_, map}
-use Prim.Native.Nat.{ℕ, suc, _+_, _/_, _≤_, _<_}
+use Prim.Native.Nat.{ℕ, zero, suc, _+_, _/_, _≤_, _<_}
 use native.Mathlib.Omega.{arith}
 use lib.Dec.{eqb, leb, ltb, lit<}
 use lib.ListN.{length, getD, List·getD-map}
@@ -16,17 +16,18 @@ use Rattle.lifting.specs.Parts as text
 use Rattle.lifting.specs.Limits.{maxOpcode, withinLimits}
 use Rattle.lifting.specs.References.{named, instFits, referencesHold}
 use Rattle.lifting.specs.Tree.{standsOnce, aroundItself, rootsHaveWaysOut, isTree}
-use Rattle.lifting.specs.Counts.{nodeFits, edgesFit, bodyOuts, bodyFits, countsAgree}
+use Rattle.lifting.specs.Counts.{isExit, endsInExit, outsFit, nodeFits, edgesFit, bodyOuts, bodyFits, countsAgree}
 use Rattle.func.specs.Lists.{both, every-at, every-append, every-gather}
-use Rattle.func.specs.Layout.{params, decls, values, childRefs, regions, nodes, ctrls, entryRoom}
+use Rattle.func.specs.Layout.{params, decls, values, nodeRefs, childRefs, regions, nodes, ctrls, entryRoom}
 use Rattle.func.specs.Store.{count, view}
 use Rattle.func.specs.Keep.{single, nodeNumber}
 use Rattle.func.specs.Decode.{numberOf}
 use Rattle.func.specs.Tables.{Listed, word, list-count, item-is}
-use Rattle.func.specs.Stored.{Stored, ins-count, results-count, node-kind, values-count, node-children, outs-count}
-use Rattle.parsed.specs.Fewer.{fits}
+use Rattle.func.specs.Stored.{Stored, region-nodes, ins-count, results-count, node-kind, values-count, node-children, outs-count}
+use Rattle.runs.specs.Tests.{every-all, stands-once}
+use Rattle.parsed.specs.Fewer.{fewer-below, fits}
 use Rattle.counts.specs.Numbered.{every-numbered}
-use Rattle.counts.specs.Test.{insIn, resultsIn, valuesIn, childrenIn, outsIn, childIn, caseTest, bodyTest, casesTest, kindTest, nodeTest, nodesTest, resultsTest, funcTest, countsTest, CountsSafe}
+use Rattle.counts.specs.Test.{insIn, resultsIn, valuesIn, childrenIn, outsIn, childIn, nodeIn, endsAt, endsTest, caseTest, bodyTest, casesTest, kindTest, nodeTest, nodesTest, resultsTest, funcTest, countsTest, CountsSafe}
 
 -- What the earlier refusals say.
 record Few (F : Func) : Type 0 where
@@ -45,7 +46,7 @@ limits F e =
     let n = both _ _ (both _ _ (both _ _ (p .0) .0) .0) in
     record { regions = leb-true _ _ (n .0); nodes = leb-true _ _ (n .1); params = leb-true _ _ (p .1); values = leb-true _ _ (v .1); decls = leb-true _ _ (d .1) }
 
-references : (F : Func) → referencesHold F ≡ true → every (λ x. ltb x (length (F .regions))) (childList F) ≡ true
+references : (F : Func) → referencesHold F ≡ true → (every (λ x. ltb x (length (F .regions))) (childList F) ≡ true) × (every (λ n. ltb n (length (F .nodes))) (nodeList F) ≡ true)
 unfolding referencesHold
 references F e =
     let a = every (named F) (text.values F) in
@@ -56,9 +57,9 @@ references F e =
     let y = distinct (map (λ c. c .id) (F .consts)) in
     let z = every (λ c. leb (c .opcode) maxOpcode) (F .consts) in
     let q = both (a && b && c) d (both (a && b && c && d) x (both (a && b && c && d && x) y (both (a && b && c && d && x && y) z (both (a && b && c && d && x && y && z) (every instFits (insts F)) e .0) .0) .0) .0) in
-    every-append (λ r. ltb r (length (F .regions))) (childList F) (ctrlRegions F) (q .1) .0
+    (every-append (λ r. ltb r (length (F .regions))) (childList F) (ctrlRegions F) (q .1) .0, both a b (both (a && b) c (q .0) .0) .1)
 
-tree : (F : Func) → isTree F ≡ true → distinct (childList F) ≡ true
+tree : (F : Func) → isTree F ≡ true → (distinct (childList F) ≡ true) × (standsOnce (length (F .nodes)) (nodeList F) ≡ true)
 unfolding isTree
 tree F e =
     let a = standsOnce (length (F .nodes)) (nodeList F) in
@@ -66,7 +67,8 @@ tree F e =
     let c = distinct (childList F) in
     let d = every (λ r. not (aroundItself F r)) (below (length (F .regions))) in
     let f = not (within 0 (childList F)) in
-    both (a && b) c (both (a && b && c) d (both (a && b && c && d) f (both (a && b && c && d && f) (rootsHaveWaysOut (F .ctrls) (childList F) (length (F .regions))) e .0) .0) .0) .1
+    let p = both (a && b) c (both (a && b && c) d (both (a && b && c && d) f (both (a && b && c && d && f) (rootsHaveWaysOut (F .ctrls) (childList F) (length (F .regions))) e .0) .0) .0) in
+    (p .1, both a b (p .0) .0)
 
 unsingle : (l : List ℕ) → map numberOf (map single l) ≡ l
 unsingle [] = refl
@@ -87,6 +89,22 @@ loop-body (select (spvInst i) v cs ds) e = absurd (omega arith)
 loop-body (loop b c vs) e = omega arith
 loop-body (exit i vs) e = absurd (omega arith)
 
+-- an exit's number is 4
+exit-number : (g : Node) → eqb (nodeNumber g) 4 ≡ isExit g
+exit-number (block is) = refl
+exit-number (select boolCond v cs ds) = refl
+exit-number (select (spvInst i) v cs ds) = refl
+exit-number (loop b c vs) = refl
+exit-number (exit i vs) = refl
+
+-- the last of k + 1 nodes
+ends-some : (F : Func) (k : ℕ) (l : List ℕ) → length l ≡ suc k → isExit (nodeOf F (getD l k 0)) ≡ endsInExit F l
+ends-some F k [] e = absurd (omega arith)
+ends-some F zero (n ∷ []) e = refl
+ends-some F (suc k) (n ∷ []) e = absurd (omega arith)
+ends-some F zero (n ∷ m ∷ l) e = absurd (omega arith)
+ends-some F (suc k) (n ∷ m ∷ l) e = ends-some F k (m ∷ l) (omega arith)
+
 module _ (F : Func) (w : List ℕ) (s : Stored F w) (l : withinLimits F ≡ true) (h : referencesHold F ≡ true) (t : isTree F ≡ true) where
   region-count : count regions w ≡ length (F .regions)
   region-count = omega (arith, s .counts regions (lit< tt), limits F l .regions)
@@ -98,7 +116,7 @@ module _ (F : Func) (w : List ℕ) (s : Stored F w) (l : withinLimits F ≡ true
   param-count = omega (arith, s .counts params (lit< tt), limits F l .params)
 
   child-count : count childRefs w ≡ length (childList F)
-  child-count = omega (arith, s .counts childRefs (lit< tt), fits (length (F .regions)) (childList F) (references F h) (tree F t), limits F l .regions)
+  child-count = omega (arith, s .counts childRefs (lit< tt), fits (length (F .regions)) (childList F) (references F h .0) (tree F t .0), limits F l .regions)
 
   region-room : count regions w ≤ entryRoom regions
   region-room = omega (arith, region-count, limits F l .regions)
@@ -113,7 +131,27 @@ module _ (F : Func) (w : List ℕ) (s : Stored F w) (l : withinLimits F ≡ true
   decl-room = omega (arith, s .counts decls (lit< tt), limits F l .decls)
 
   child-room : count childRefs w ≤ entryRoom childRefs
-  child-room = omega (arith, child-count, fits (length (F .regions)) (childList F) (references F h) (tree F t), limits F l .regions)
+  child-room = omega (arith, child-count, fits (length (F .regions)) (childList F) (references F h .0) (tree F t .0), limits F l .regions)
+
+  ref-few : length (nodeList F) ≤ 128
+  ref-few =
+      let low = every-all (λ n. ltb n (length (F .nodes))) (λ n. n < length (F .nodes)) (λ n e. ltb-true n (length (F .nodes)) e) (nodeList F) (references F h .1) in
+      omega (arith, fewer-below (length (F .nodes)) (nodeList F) (stands-once (length (F .nodes)) (nodeList F) (tree F t .1) low) low, limits F l .nodes)
+
+  ref-count : count nodeRefs w ≡ length (nodeList F)
+  ref-count = omega (arith, s .counts nodeRefs (lit< tt), ref-few)
+
+  ref-room : count nodeRefs w ≤ entryRoom nodeRefs
+  ref-room = omega (arith, ref-count, ref-few)
+
+  ref-at : (j : ℕ) → word nodeRefs w j 0 ≡ getD (nodeList F) j 0
+  ref-at j =
+      sym (List·getD-map numberOf (view nodeRefs w) j [])
+      ∙ ap (λ (x : List (List ℕ)). getD (map numberOf x) j 0) (s .views nodeRefs (lit< tt) (omega (arith, ref-room, ref-count)))
+      ∙ ap (λ (x : List ℕ). getD x j 0) (unsingle (nodeList F))
+
+  nodes-of : (r : ℕ) → r < length (F .regions) → Listed nodeRefs single (regionOf F r .nodes) w (word regions w r 1)
+  nodes-of r m = region-nodes s region-room r m ref-room
 
   child-at : (j : ℕ) → word childRefs w j 0 ≡ getD (childList F) j 0
   child-at j =
@@ -133,10 +171,16 @@ module _ (F : Func) (w : List ℕ) (s : Stored F w) (l : withinLimits F ≡ true
     child-runs = λ n m. kids n (omega (arith, node-count)) .piece .within;
     child-low = λ i m. subst (λ x. x < count regions w) (sym (child-at i)) (low i m);
     loop-child = λ n m e. body n (omega (arith, node-count)) e;
+    ref-room = ref-room;
+    node-runs = λ r m. nodes-of r (omega (arith, region-count)) .piece .within;
+    node-low = λ i m. subst (λ x. x < count nodes w) (sym (ref-at i)) (ref-low i m);
   }
     where
       low : (i : ℕ) → i < count childRefs w → getD (childList F) i 0 < count regions w
-      low i m = omega (arith, region-count, ltb-true (getD (childList F) i 0) (length (F .regions)) (every-at (λ x. ltb x (length (F .regions))) (childList F) (references F h) i 0 (omega (arith, child-count))))
+      low i m = omega (arith, region-count, ltb-true (getD (childList F) i 0) (length (F .regions)) (every-at (λ x. ltb x (length (F .regions))) (childList F) (references F h .0) i 0 (omega (arith, child-count))))
+
+      ref-low : (i : ℕ) → i < count nodeRefs w → getD (nodeList F) i 0 < count nodes w
+      ref-low i m = omega (arith, node-count, ltb-true (getD (nodeList F) i 0) (length (F .nodes)) (every-at (λ x. ltb x (length (F .nodes))) (nodeList F) (references F h .1) i 0 (omega (arith, ref-count))))
 
       body : (n : ℕ) → n < length (F .nodes) → word nodes w n 0 ≡ 3 → 0 < childrenIn w n
       body n m e = omega (arith, list-count (kids n m), loop-body (nodeOf F n) (sym (node-kind s node-room n m) ∙ e))
@@ -147,6 +191,29 @@ module _ (F : Func) (w : List ℕ) (s : Stored F w) (l : withinLimits F ≡ true
 
   results-are : (c : ℕ) → c < length (F .regions) → resultsIn w c ≡ length (regionOf F c .outs)
   results-are c m = results-count s region-room c m value-room
+
+  -- its last node is an exit
+  ends-are : (c : ℕ) → c < length (F .regions) → endsTest w c ≡ endsInExit F (regionOf F c .nodes)
+  unfolding nodeList
+  ends-are c m = ap (endsAt w c) (list-count (nodes-of c m)) ∙ by-length (length ns) refl
+    where
+      ns : List ℕ
+      ns = regionOf F c .nodes
+
+      low : every (λ x. ltb x (length (F .nodes))) ns ≡ true
+      low = every-at (λ (r : Region). every (λ x. ltb x (length (F .nodes))) (r .nodes)) (F .regions)
+          (every-gather (λ x. ltb x (length (F .nodes))) (λ r. r .nodes) (F .regions) (references F h .1)) c _ m
+
+      by-length : (k : ℕ) → length ns ≡ k → endsAt w c k ≡ endsInExit F ns
+      by-length zero e = none ns e
+        where
+          none : (l : List ℕ) → length l ≡ 0 → false ≡ endsInExit F l
+          none [] e = refl
+          none (x ∷ l) e = absurd (omega arith)
+      by-length (suc k) e =
+          let here : nodeIn w c k ≡ getD ns k 0 = ap (λ (z : List ℕ). getD z 0 0) (item-is (nodes-of c m) k (omega arith) 0 {at = word regions w c 1 / 4096 + k} refl) in
+          let below : getD ns k 0 < length (F .nodes) = ltb-true _ _ (every-at (λ x. ltb x (length (F .nodes))) ns low k 0 (omega arith)) in
+          ap (λ (x : ℕ). eqb (word nodes w x 0) 4) here ∙ ap (λ (x : ℕ). eqb x 4) (node-kind s node-room (getD ns k 0) below) ∙ exit-number (nodeOf F (getD ns k 0)) ∙ ends-some F k ns e
 
   -- what the row of node n says, where the node is g
   record Row (n : ℕ) (g : Node) : Type 0 where
@@ -164,7 +231,7 @@ module _ (F : Func) (w : List ℕ) (s : Stored F w) (l : withinLimits F ≡ true
     kids = kids n m;
     outs = outs-count s node-room n m decl-room;
     low = every-at (λ (g : Node). every (λ x. ltb x (length (F .regions))) (childrenOf g)) (F .nodes)
-        (every-gather (λ x. ltb x (length (F .regions))) childrenOf (F .nodes) (references F h)) n _ m;
+        (every-gather (λ x. ltb x (length (F .regions))) childrenOf (F .nodes) (references F h .0)) n _ m;
   }
 
   module _ {n : ℕ} {g : Node} (r : Row n g) where
@@ -174,15 +241,15 @@ module _ (F : Func) (w : List ℕ) (s : Stored F w) (l : withinLimits F ≡ true
     child-low : (i : ℕ) → i < length (childrenOf g) → getD (childrenOf g) i 0 < length (F .regions)
     child-low i m = ltb-true _ _ (every-at (λ x. ltb x (length (F .regions))) (childrenOf g) (r .low) i 0 m)
 
-    cases-are : casesTest w n ≡ every (λ c. eqb (length (regionOf F c .ins)) 0 && eqb (length (regionOf F c .outs)) (length (outsOf g))) (childrenOf g)
+    cases-are : casesTest w n ≡ every (λ c. eqb (length (regionOf F c .ins)) 0 && outsFit F c (length (outsOf g))) (childrenOf g)
     unfolding casesTest
     cases-are =
         ap (λ (m : ℕ). every (λ i. caseTest w n (childIn w n i)) (below m)) (list-count (r .kids))
-        ∙ every-numbered (λ i. caseTest w n (childIn w n i)) (λ c. eqb (length (regionOf F c .ins)) 0 && eqb (length (regionOf F c .outs)) (length (outsOf g))) 0 (childrenOf g) 0
+        ∙ every-numbered (λ i. caseTest w n (childIn w n i)) (λ c. eqb (length (regionOf F c .ins)) 0 && outsFit F c (length (outsOf g))) 0 (childrenOf g) 0
         (λ i j m e. ap (caseTest w n) (child-is i j m (omega arith)) ∙ case (getD (childrenOf g) i 0) (child-low i m))
       where
-        case : (c : ℕ) → c < length (F .regions) → caseTest w n c ≡ (eqb (length (regionOf F c .ins)) 0 && eqb (length (regionOf F c .outs)) (length (outsOf g)))
-        case c m = λ k. eqb (ins-are c m k) 0 && eqb (results-are c m k) (r .outs k)
+        case : (c : ℕ) → c < length (F .regions) → caseTest w n c ≡ (eqb (length (regionOf F c .ins)) 0 && outsFit F c (length (outsOf g)))
+        case c m = λ k. eqb (ins-are c m k) 0 && (eqb (results-are c m k) (r .outs k) || (eqb (results-are c m k) 0 && ends-are c m k))
 
   node-is : (n : ℕ) (g : Node) → Row n g → nodeTest w n ≡ nodeFits F g
   node-is n (block is) r = ap (kindTest w n) (r .kind)

@@ -3,14 +3,14 @@
 --     countsTest      the test
 --     CountsSafe      what the code needs to stay within the slice
 use mathlib.Core.Path.{_≡_}
-use mathlib.Core.Bool.{Bool, true, cond, _&&_}
+use mathlib.Core.Bool.{Bool, true, false, cond, _&&_, _||_}
 use mathlib.Core.List.{List}
-use Prim.Native.Nat.{ℕ, _+_, _/_, _%_, _≤_, _<_}
+use Prim.Native.Nat.{ℕ, zero, suc, _+_, _/_, _%_, _≤_, _<_}
 use lib.Dec.{eqb, leb, ltb}
 use lib.ListN.{length}
 use Rattle.lifting.specs.Limits.{scratchWords}
 use Rattle.lifting.specs.Lists.{below, every}
-use Rattle.func.specs.Layout.{params, childRefs, regions, nodes, ctrls, entryRoom}
+use Rattle.func.specs.Layout.{params, nodeRefs, childRefs, regions, nodes, ctrls, entryRoom}
 use Rattle.func.specs.Store.{count}
 use Rattle.func.specs.Tables.{word}
 
@@ -33,9 +33,27 @@ outsIn w n = word nodes w n 6 % 4096
 abbrev pub childIn : List ℕ → ℕ → ℕ → ℕ
 childIn w n i = word childRefs w (word nodes w n 5 / 4096 + i) 0
 
+-- how many nodes region r has, and its node i
+abbrev pub nodesIn : List ℕ → ℕ → ℕ
+nodesIn w r = word regions w r 1 % 4096
+
+abbrev pub nodeIn : List ℕ → ℕ → ℕ → ℕ
+nodeIn w r i = word nodeRefs w (word regions w r 1 / 4096 + i) 0
+
+-- the last of region r's m nodes is an exit
+abbrev pub endsAt : List ℕ → ℕ → ℕ → Bool
+endsAt w r zero = false
+endsAt w r (suc k) = eqb (word nodes w (nodeIn w r k) 0) 4
+
+abbrev pub endsTest : List ℕ → ℕ → Bool
+endsTest w r = endsAt w r (nodesIn w r)
+
 -- region c fits as a case of node n, and as a loop's body
+abbrev pub outsTest : List ℕ → ℕ → ℕ → Bool
+outsTest w n c = eqb (resultsIn w c) (outsIn w n) || (eqb (resultsIn w c) 0 && endsTest w c)
+
 abbrev pub caseTest : List ℕ → ℕ → ℕ → Bool
-caseTest w n c = eqb (insIn w c) 0 && eqb (resultsIn w c) (outsIn w n)
+caseTest w n c = eqb (insIn w c) 0 && outsTest w n c
 
 abbrev pub bodyTest : List ℕ → ℕ → ℕ → Bool
 bodyTest w n c = eqb (valuesIn w n) (insIn w c + 1) && eqb (resultsIn w c) (insIn w c)
@@ -74,3 +92,7 @@ pub record CountsSafe (w : List ℕ) : Type 0 where
   pub child-runs : (n : ℕ) → n < count nodes w → word nodes w n 5 / 4096 + childrenIn w n ≤ count childRefs w
   pub child-low : (i : ℕ) → i < count childRefs w → word childRefs w i 0 < count regions w
   pub loop-child : (n : ℕ) → n < count nodes w → word nodes w n 0 ≡ 3 → 0 < childrenIn w n
+  -- the nodes of a region stand in theirs, and each is a node
+  pub ref-room : count nodeRefs w ≤ entryRoom nodeRefs
+  pub node-runs : (r : ℕ) → r < count regions w → word regions w r 1 / 4096 + nodesIn w r ≤ count nodeRefs w
+  pub node-low : (i : ℕ) → i < count nodeRefs w → word nodeRefs w i 0 < count nodes w

@@ -10,17 +10,33 @@ use func::rows::row_child;
 use func::rows::row_children;
 use func::rows::row_ins;
 use func::rows::row_kind;
+use func::rows::row_node;
+use func::rows::row_nodes;
 use func::rows::row_outs;
 use func::rows::row_results;
 use func::rows::row_values;
 ghost use mathlib.Core.Path.{_≡_};
 ghost use Prim.Native.Nat.{_<_};
-ghost use Rattle.func.specs.Layout.{nodes};
+ghost use Rattle.func.specs.Layout.{nodes, regions};
 ghost use Rattle.func.specs.Store.{count};
 ghost use Rattle.func.specs.Tables.{word};
-ghost use Rattle.counts.specs.Test.{childrenIn, childIn, caseTest, bodyTest, casesTest, nodeTest, nodesTest, funcTest, countsTest, CountsSafe};
+ghost use Rattle.counts.specs.Test.{childrenIn, childIn, endsTest, caseTest, bodyTest, casesTest, nodeTest, nodesTest, funcTest, countsTest, CountsSafe};
 
-// Case i of select n has no inputs, and as many outputs as the node.
+// The last node of region c is an exit.
+fn ends_in_exit(func: &[u32], c: usize) -> bool
+    requires { ⌜ CountsSafe (now func) ⌝ }
+    requires { ⌜ c < count regions (now func) ⌝ }
+    ensures { λ r. ⌜ r ≡ endsTest (now (func .entry)) c ⌝ }
+{
+    let m = row_nodes(func, c);
+    if m == 0 {
+        return false;
+    }
+    let n = row_node(func, c, m - 1);
+    row_kind(func, n) == 4
+}
+
+// Case i of select n has no inputs, and as many outputs as the node, or none where its last node is an exit.
 fn case_fits(func: &[u32], n: usize, i: usize) -> bool
     requires { ⌜ CountsSafe (now func) ⌝ }
     requires { ⌜ (n < count nodes (now func)) × (i < childrenIn (now func) n) ⌝ }
@@ -30,7 +46,14 @@ fn case_fits(func: &[u32], n: usize, i: usize) -> bool
     if row_ins(func, c) != 0 {
         return false;
     }
-    row_results(func, c) == row_outs(func, n)
+    let r = row_results(func, c);
+    if r == row_outs(func, n) {
+        return true;
+    }
+    if r != 0 {
+        return false;
+    }
+    ends_in_exit(func, c)
 }
 
 // All cases do.

@@ -108,7 +108,7 @@ towards-in q x {o} i = by-case (eqPoint q (x .to)) i
     by-case (yes e) i = (sym e, elim (in-cases i) [ inl z ↦ z | inr j ↦ absurd (in-nil j) ])
     by-case (no n) i = absurd (in-nil i)
 
-ends-by : (s : Status) (g : Bool) → endsBy s g ≡ true → (¬ (s ≡ gone)) × (g ≡ false)
+pub ends-by : (s : Status) (g : Bool) → endsBy s g ≡ true → (¬ (s ≡ gone)) × (g ≡ false)
 ends-by gone g e = absurd (false≢true e)
 ends-by starts true e = absurd (false≢true e)
 ends-by starts false e = (λ e. let z : _≡_ {A = ℕ} 0 1 = cc in omega arith, refl)

@@ -18,23 +18,22 @@ use Rattle.lifting.specs.Absorb.{countIn, kept, useCount}
 use Rattle.lifting.specs.Ids.{idOf, labelOf}
 use Rattle.lifting.specs.Instructions.{ifUsed, pairs}
 use Rattle.func.specs.Lists.{gather-gather}
-use Rattle.runs.specs.Members.{In, NoDup, all-in, here, there, in-cases, in-getD, in-nil}
+use Rattle.runs.specs.Members.{In, NoDup, here, there, in-cases, in-getD, in-nil}
 use Rattle.runs.specs.AbsorbCount.{in-count}
 use Rattle.runs.specs.Pairs.{counted-in}
 use Rattle.runs.specs.Tests.{find-in}
 use Rattle.runs.specs.Tour.{find-unique, unique-of}
-use Rattle.runs.specs.Terms.{TermOk}
-use Rattle.runs.specs.Shaped.{Shaped, terms}
+use Rattle.runs.specs.Shaped.{Shaped}
 use Rattle.flat.specs.Flat.{Status, goes, gone, noPair, part, partAt, starts, upTo}
 use Rattle.flat.specs.FlatLaws.{upTo-cons, upTo-same}
 use Rattle.flat.specs.Gathered.{gather-none}
 use Rattle.flat.specs.ListFlat.{pairing}
 use Rattle.flat.specs.Steps.{Step, step-entry, step-exit, step-in, step-out}
-use Rattle.flat.specs.Laws.{each-once, edge-is, pairs-are, steps}
+use Rattle.flat.specs.Laws.{each-once, edge-is, pairs-are, stands-fit, steps}
 use Rattle.term.specs.At.{blockAt, pointAt}
 use Rattle.term.specs.Edges.{edgesBy, entryEdges, soleEdge, termEdges, valuesAlong}
 use Rattle.blocks.specs.Glue.{absorbs, stands}
-use Rattle.edges.specs.Ends.{edgesAt, edgesFrom, edgesInto, edgesOf, endEdges, endsBy, endsHere, headAt, headOf, into, listIf, towards}
+use Rattle.edges.specs.Ends.{edgesAt, edgesFrom, edgesInto, edgesOf, endEdges, ends-by, endsBy, endsHere, headAt, headOf, into, listIf, towards}
 use Rattle.edges.specs.Values.{carries}
 
 -- ---- edges of one way out
@@ -159,9 +158,9 @@ module _ (F : Func) where
     found : find eqPoint q T ≡ some b
     found = find-unique T (unique-of T (each-once F ok)) q b (in-getD T i noPair h)
 
-    takes : (p : ℕ) → p < length (walkOf F) → 0 < length (b .keys) → In q (blockAt F p .term .targets) → Takes q (blockAt F p .term)
-    takes p l some-keys j =
-        let w = all-in (λ (x : CfgPoint × BlockLifting). TermOk T (x .1 .term)) T (terms F ok) (getD T p noPair) (in-getD T p noPair l) .to q j in
+    takes : (p : ℕ) → p < length (walkOf F) → ¬ (stands F p ≡ gone) → 0 < length (b .keys) → In q (blockAt F p .term .targets) → Takes q (blockAt F p .term)
+    takes p l stays some-keys j =
+        let w = stands-fit F ok p l stays .to q j in
         let same : some (w .0) ≡ some b = sym (w .1) ∙ found in
         let block : w .0 ≡ b = cc in
         by-find (find eqPoint q (t .vals)) refl (subst (λ (x : BlockLifting). length (x .keys) ≡ length (valsOr (find eqPoint q (t .vals)) (x .defaults))) block (w .2))
@@ -211,6 +210,10 @@ if-into : (f : ℕ × ℕ → List ℕ) (q : CfgPoint) (p : ℕ) (c : Bool) (l :
 if-into f q p true l = refl
 if-into f q p false l = refl
 
+if-true : {A : Type 0} (c : Bool) {k l : List A} → (c ≡ true → k ≡ l) → listIf c k ≡ listIf c l
+if-true true h = h refl
+if-true false h = refl
+
 -- pairs are written at the ends of blocks
 pair-part : (F : Func) (first : ℕ) (T K : Table) (q : CfgPoint) (j : ℕ) (s : Status) (c : Bool) (x : CfgPoint × BlockLifting)
     → part (pairing F first T K q j) s c x ≡ listIf (endsBy s c) (pairing F first T K q j .end (headOf s (x .0)) (x .1 .term))
@@ -243,23 +246,23 @@ module _ (F : Func) (ok : Shaped F) (control : controlFits F ≡ true) (first : 
     d = blockAt F i .defaults
 
     -- of the way out at position k
-    end-pairs : (k : ℕ) → k < length (walkOf F)
+    end-pairs : (k : ℕ) → k < length (walkOf F) → ¬ (stands F k ≡ gone)
         → pairing F first W K p j .end (headAt F k) (blockAt F k .term) ≡ gather (pairOf F first d j) (into p (edgesOf k (termEdges (blockAt F k .term))))
-    end-pairs k b =
+    end-pairs k b stays =
         let t : Terminator = blockAt F k .term in
         let g : List Value → List ℕ = λ vs. idOf F first W K (getD vs j (const 0)) ∷ labelOf F first W K (headAt F k) ∷ [] in
         let c = carries F ok control k b in
         let edge : edgeOf K t p ≡ valsOr (find eqPoint p (t .vals)) d =
         edge-is F ok t p ∙ ap (λ (o : Option BlockLifting). valsOr (find eqPoint p (t .vals)) (blockOr o .defaults)) (found F ok control i h) in
         ap (λ (vs : List Value). ifUsed (countIn p (t .targets)) (g vs)) edge
-        ∙ edges-give t p g d (c .once) (c .led) (λ y. takes F ok control i h k b (omega arith) y)
+        ∙ edges-give t p g d (c .once) (c .led) (λ y. takes F ok control i h k b stays (omega arith) y)
         ∙ sym (gather-into (pairOf F first d j) p k (termEdges t))
 
     position-pairs : (k : ℕ) → k < length (walkOf F) → partAt (useCount W) (pairing F first W K p j) W k ≡ gather (pairOf F first d j) (into p (edgesAt F k))
     unfolding partAt edgesAt endEdges
     position-pairs k b =
         pair-part F first W K p j (stands F k) (absorbs F k) (getD W k noPair)
-        ∙ ap (listIf (endsHere F k)) (end-pairs k b)
+        ∙ if-true (endsHere F k) (λ e. end-pairs k b (ends-by (stands F k) (absorbs F k) e .0))
         ∙ sym (if-into (pairOf F first d j) p k (endsHere F k) (termEdges (blockAt F k .term)))
 
     -- phi j of the block at position i has a pair for each edge into its point, in order

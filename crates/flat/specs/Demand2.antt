@@ -6,14 +6,16 @@ use mathlib.Core.Bool.{true}
 use mathlib.Core.List.{List}
 use mathlib.Core.Option.{some}
 use Prim.Native.Nat.{ℕ, suc, _≤_, _<_}
-use lib.ListN.{length}
-use Rattle.lifting.specs.Ast.{Func}
+use native.Mathlib.Omega.{arith}
+use lib.ListN.{getD, length}
+use Rattle.lifting.specs.Ast.{Decl, Func, SelectionKind, Value, select}
 use Rattle.lifting.specs.Grammar.{read}
-use Rattle.lifting.specs.Parts.{hasBody}
+use Rattle.lifting.specs.Parts.{hasBody, nodeOf, regionOf}
 use Rattle.lifting.specs.Limits.{highestId}
-use Rattle.lifting.specs.Points.{Table}
+use Rattle.lifting.specs.Counts.{endsInExit}
+use Rattle.lifting.specs.Points.{Table, regionExit}
 use Rattle.lifting.specs.Walk.{walkOf}
-use Rattle.lifting.specs.Absorb.{absorb, kept}
+use Rattle.lifting.specs.Absorb.{absorb, kept, useCount}
 use Rattle.lifting.specs.Ids.{nextId, phiKeys}
 use Rattle.lifting.specs.Instructions.{Instruction, listOf}
 use Rattle.lifting.specs.Words.{listFrom}
@@ -32,6 +34,8 @@ use Rattle.runs.specs.Demand3.{accepted, fine, list-is, passed}
 use Rattle.flat.specs.Below.{IdsBelow, list-low}
 use Rattle.flat.specs.Labels.{LabelsDiffer, kept-parted, list-apart}
 use Rattle.flat.specs.Phis.{phi-keys-kept}
+use Rattle.flat.specs.Flat.{gone, noPair, statusAt}
+use Rattle.flat.specs.Standing.{case-exit-gone}
 use Rattle.flat.specs.NeverDecides.{by-count-alone, keptByCount}
 
 module _ (text : List ℕ) (first func work out : ℕ) (ws : List ℕ) (next : ℕ) (ok : answer text first func work out ≡ listed ws next)
@@ -61,6 +65,12 @@ module _ (text : List ℕ) (first func work out : ℕ) (ws : List ℕ) (next : �
       let f = fine text first func work out ws next ok F is in
       subst (λ (xs : List (ℕ × List Instruction)). (l : ℕ) (body : List Instruction) → In (l, body) xs → (j : ℕ) → j < length (phisOf body) → PhiPairs F first T K xs l j (phiIds body j))
       (sym blocks-are) (phi-pairs-of F first T K (f .sound) (f .points-once))
+
+  -- Document 02, W2: the exit of a case whose last node is an exit stands in no kept block, so phis take no pair from it.
+  pub no-pair-after-exit : (n c : ℕ) {k : SelectionKind} {v : Value} {cs : List ℕ} {ds : List Decl} → nodeOf F n ≡ select k v cs ds → In c cs → endsInExit F (regionOf F c .nodes) ≡ true
+      → (i : ℕ) → i < length (walkOf F) → getD (walkOf F) i noPair .0 ≡ regionExit c → statusAt (useCount (walkOf F)) (walkOf F) i ≡ gone
+  no-pair-after-exit n c e j en = of-walk F (λ (U : Table). (i : ℕ) → i < length U → getD U i noPair .0 ≡ regionExit c → statusAt (useCount U) U i ≡ gone)
+      (λ body. case-exit-gone F (shaped body) n c e j en) (λ i h. absurd (omega arith))
 
   -- the test that an absorbed target has no phis never decides
   pub absorbed-by-count : keptByCount (walkOf F) ≡ kept (walkOf F)

@@ -19,10 +19,10 @@ use Rattle.runs.specs.AbsorbAll.{Kept, absorb-kept, find-keep}
 use Rattle.runs.specs.Tests.{find-in}
 use Rattle.runs.specs.Each.{each-absorbed}
 use Rattle.runs.specs.Tour.{find-unique, in-points}
-use Rattle.runs.specs.Terms.{TermOk}
 use Rattle.runs.specs.KeptTerms.{SameKeys, Shape, absorb-shape, in-keep, in-uses, same-some}
 use Rattle.runs.specs.AcceptedRuns.{someWorld}
-use Rattle.runs.specs.Shaped.{Shaped, terms, tidy}
+use Rattle.runs.specs.Shaped.{Shaped, leads, tidy}
+use Rattle.runs.specs.EndedKept.{kept-term}
 use Rattle.flat.specs.Uses.{labels-visited}
 use Rattle.flat.specs.Phis.{edge-kept}
 
@@ -47,7 +47,7 @@ module _ (F : Func) (ok : Shaped F) where
   fine = absorb-kept F someWorld T (tidy F ok)
 
   shape : Shape T U
-  shape = absorb-shape T (terms F ok)
+  shape = absorb-shape T (leads F ok)
 
   before : (x : CfgPoint × BlockLifting) → In x (kept T) → In x U × (0 < absorb T .counts (x .0))
   unfolding kept
@@ -73,7 +73,7 @@ module _ (F : Func) (ok : Shaped F) where
 
   pub edge-fits : (x : CfgPoint × BlockLifting) → In x (kept (walkOf F)) → (q : CfgPoint) → In q (x .1 .term .targets) → (b : BlockLifting) → In (q, b) (kept (walkOf F)) → length (b .keys) ≡ length (edgeOf (kept (walkOf F)) (x .1 .term) q)
   edge-fits x i q j b h =
-      let w = all-in (λ (y : CfgPoint × BlockLifting). TermOk T (y .1 .term)) U (shape .terms) x (before x i .0) .to q j in
+      let w = kept-term F ok x i .to q j in
       let f : find eqPoint q U ≡ some b = find-unique U (fine .tidy .unique) q b (before (q, b) h .0) in
       let s : SameKeys (some b) (some (w .0)) = subst (λ (o : Option BlockLifting). SameKeys o (some (w .0))) f (subst (SameKeys (find eqPoint q U)) (w .1) (shape .same q)) in
       ap (λ (l : List Value). length l) (s .0)

@@ -14,6 +14,7 @@ pub mod Phis
 pub mod SetIds
 pub mod ListFlat
 pub mod Kept
+pub mod Standing
 pub mod Callees
 pub mod Missing
 pub mod Below

@@ -97,11 +97,16 @@ module _ (F : Func) (ok : Shaped F) where
           exit-same : regionExit p ≡ regionExit r → p ≡ r
           exit-same x = cc
 
+  -- where a case or a loop's body leads is used twice
+  pub child-busy : {r n : ℕ} (t : CfgPoint) → Visited F r (inNode n) → soleTarget (exitBlock F r (inNode n) .term) ≡ some t → ¬ (uses t ≡ 1)
+  child-busy t (in-case {n} {c} w sf q i) e = busy (case-target (nodeOf F n) n (regionOf F c .outs) t q e) (select-busy w sf q i)
+  child-busy t (in-loop {n} {b} w sf q) e = busy (loop-target (nodeOf F n) n (regionOf F b .outs) t q e) (loop-busy w sf q)
+
   exit-ahead : {r : ℕ} {p : Place} (o : Option CfgPoint) → Visited F r p → (p ≡ top → Onto F r o) → Ahead uses (regionExit r, exitBlock F r p) o
   exit-ahead o at-body a t e u = root-ahead 0 o at-body (a refl) t e u
   exit-ahead o (by-ctrl {s} v q i) a t e u = root-ahead s o (by-ctrl v q i) (a refl) t e u
-  exit-ahead o (in-case {n} {c} w sf q i) a t e u = absurd (busy (case-target (nodeOf F n) n (regionOf F c .outs) t q e) (select-busy w sf q i) u)
-  exit-ahead o (in-loop {n} {b} w sf q) a t e u = absurd (busy (loop-target (nodeOf F n) n (regionOf F b .outs) t q e) (loop-busy w sf q) u)
+  exit-ahead o (in-case w sf q i) a t e u = absurd (child-busy t (in-case w sf q i) e u)
+  exit-ahead o (in-loop w sf q) a t e u = absurd (child-busy t (in-loop w sf q) e u)
 
   step-ahead : (x : CfgPoint × BlockLifting) (o : Option CfgPoint) → Step F x o → Ahead uses x o
   step-ahead x o (step-entry v) t e u = e

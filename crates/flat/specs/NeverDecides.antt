@@ -1,7 +1,9 @@
 -- The test that an absorbed target has no phis never decides: absorption by use counts alone keeps the same blocks. A way out that absorbs
--- carries no values, so a target of it that has phis fills them by itself; that is a loop's entry alone, and it is used twice: from before the
--- loop and by its way back. Assumes nothing.
+-- carries no values, so a target of it that has phis fills them by itself, unless it leads from a case that ends in an exit. The first is a
+-- loop's entry alone, and it is used twice: from before the loop and by its way back. The second is the select's exit, and it is used twice:
+-- by that case and as the merge label. Assumes nothing.
 use mathlib.Core.Path.{_≡_, refl, sym, ap, _∙_, subst}
+use mathlib.Core.Logic.{inl, inr}
 use mathlib.Core.List.{List, [], _∷_}
 use mathlib.Core.Option.{Option, none, some}
 use Prim.Native.Nat.{ℕ, _≤_}
@@ -11,28 +13,26 @@ use lib.ListN.{length}
 use Rattle.lifting.specs.Lists.{choose, find}
 use Rattle.lifting.specs.Ast.{Func, Node, Value, block, select, loop, exit}
 use Rattle.lifting.specs.Parts.{nodeOf, regionOf}
-use Rattle.lifting.specs.Points.{BlockLifting, CfgPoint, Table, blockAt, blockOr, eqPoint, nodeEntry, nothingHere, plain, points}
-use Rattle.lifting.specs.Walk.{Place, inBlock, walkOf}
-use Rattle.lifting.specs.Absorb.{Absorbing, absorb, absorbAll, fuse, ifNoPhis, keep, kept, soleTarget, tryTarget, useCount}
+use Rattle.lifting.specs.Points.{BlockLifting, CfgPoint, Table, blockAt, blockOr, eqPoint, nodeEntry, nodeExit, nothingHere, plain, points, regionEntry, regionExit}
+use Rattle.lifting.specs.Walk.{Place, exitBlock, inBlock, inNode, walkOf}
+use Rattle.lifting.specs.Absorb.{Absorbing, absorb, absorbAll, ifNoPhis, keep, kept, soleTarget, tryTarget, useCount}
 use Rattle.runs.specs.Members.{In, all-from, all-in, here}
 use Rattle.runs.specs.Tests.{find-in}
+use Rattle.runs.specs.Tour.{find-unique, unique-of}
 use Rattle.runs.specs.Places.{Suffix, Visited}
 use Rattle.runs.specs.AbsorbCount.{block-keys, sole-straight}
-use Rattle.runs.specs.Each.{Each, each-at, each-fuse}
+use Rattle.runs.specs.Each.{Each, each-at, each-fuse, taken}
 use Rattle.runs.specs.Terms.{TermOk}
-use Rattle.runs.specs.Shaped.{Shaped, terms}
+use Rattle.runs.specs.Ended.{LetOff}
+use Rattle.runs.specs.Shaped.{Shaped, laid, terms, walk-once}
 use Rattle.flat.specs.Chain.{chain-all, none-some}
 use Rattle.flat.specs.Steps.{Step, step-entry, step-exit, step-in, step-out, walk-steps}
-use Rattle.flat.specs.Nearby.{loop-busy}
-
--- the block at b absorbs t
-abbrev pub taking : CfgPoint → CfgPoint → Absorbing → Absorbing
-taking b t s = record { table = fuse b t (blockAt (s .table) t) (s .table); counts = λ q. choose (eqPoint q t) 0 (s .counts q) }
+use Rattle.flat.specs.Nearby.{child-busy, loop-busy}
 
 -- as `tryTarget`, without the test: if the target has use count 1
 abbrev pub tryByCount : CfgPoint → Option CfgPoint → Absorbing → Absorbing
 tryByCount b none s = s
-tryByCount b (some t) s = choose (ℕ-discrete (s .counts t) 1) (taking b t s) s
+tryByCount b (some t) s = choose (ℕ-discrete (s .counts t) 1) (taken b t s) s
 
 -- over points in reverse order
 abbrev pub absorbByCount : List CfgPoint → Absorbing → Absorbing
@@ -57,7 +57,7 @@ module _ (T : Table) where
   nothing-clear : Clear (plain nothingHere)
   nothing-clear t e u = absurd (none-some e)
 
-  stays-after : (b t : CfgPoint) (s : Absorbing) → Stays s → Stays (taking b t s)
+  stays-after : (b t : CfgPoint) (s : Absorbing) → Stays s → Stays (taken b t s)
   stays-after b t s h = record {
     clear = each-fuse Clear nothing-clear (λ d k. nothing-clear) (λ d e k l. l) b t (blockAt (s .table) t) (each-at Clear nothing-clear (s .table) (h .clear) t) (s .table) (h .clear);
     phis = λ q. block-keys b t (blockAt (s .table) t) (s .table) q .0 ∙ h .phis q;
@@ -72,10 +72,10 @@ module _ (T : Table) where
   try-same b s h none e = (refl, h)
   try-same b s h (some t) e = by-count (ℕ-discrete (s .counts t) 1)
     where
-      by-count : (d : Dec (s .counts t ≡ 1)) → (choose d (taking b t s) s ≡ choose d (ifNoPhis (blockAt (s .table) t .keys) (taking b t s) s) s) × Stays (choose d (ifNoPhis (blockAt (s .table) t .keys) (taking b t s) s) s)
+      by-count : (d : Dec (s .counts t ≡ 1)) → (choose d (taken b t s) s ≡ choose d (ifNoPhis (blockAt (s .table) t .keys) (taken b t s) s) s) × Stays (choose d (ifNoPhis (blockAt (s .table) t .keys) (taken b t s) s) s)
       by-count (yes u) =
           let none-there : blockAt (s .table) t .keys ≡ [] = h .phis t ∙ each-at Clear nothing-clear (s .table) (h .clear) b t e (h .ones t u) in
-          subst (λ (ks : List Value). (taking b t s ≡ ifNoPhis ks (taking b t s) s) × Stays (ifNoPhis ks (taking b t s) s)) (sym none-there) (refl, stays-after b t s h)
+          subst (λ (ks : List Value). (taken b t s ≡ ifNoPhis ks (taken b t s) s) × Stays (ifNoPhis ks (taken b t s) s)) (sym none-there) (refl, stays-after b t s h)
       by-count (no n) = (refl, h)
 
   all-same : (l : List CfgPoint) (s : Absorbing) → Stays s → (absorbByCount l s ≡ absorbAll l s) × Stays (absorbAll l s)
@@ -110,9 +110,9 @@ module _ (F : Func) (ok : Shaped F) where
   step-busy x o (step-out v sf) m = absurd (m refl)
   step-busy x o (step-exit v a) m = absurd (m refl)
 
-  target-clear : (x : CfgPoint × BlockLifting) → In x T → Clear T (x .1)
-  target-clear x i t e u =
-      let way : TermOk T (x .1 .term) = all-in (λ (y : CfgPoint × BlockLifting). TermOk T (y .1 .term)) T (terms F ok) x i in
+  -- a way out with enough values
+  fed-clear : (x : CfgPoint × BlockLifting) → TermOk T (x .1 .term) → Clear T (x .1)
+  fed-clear x way t e u =
       let w = subst (TermOk T) (sole-straight (x .1 .term) t e) way .to t here in
       ap (λ (o : Option BlockLifting). blockOr o .keys) (w .1) ∙ by-fill (w .0) (w .1) (w .0 .keys) (w .0 .defaults) refl refl (w .2)
     where
@@ -121,6 +121,18 @@ module _ (F : Func) (ok : Shaped F) where
       by-fill b f (k ∷ ks) [] p q l = absurd (omega (arith, ap length p, ap length q))
       by-fill b f (k ∷ ks) (d ∷ ds) p q l =
           absurd (omega (arith, all-in Busy T (chain-all (Step F) Busy step-busy T none (walk-steps F ok)) (t, b) (find-in eqPoint t T f) (λ z. let o : _≡_ {A = ℕ} 0 1 = cc in omega arith)))
+
+  -- a case that ends in an exit
+  case-clear : (p : CfgPoint) (b : BlockLifting) → LetOff F p → In (p, b) T → Clear T b
+  case-clear (regionEntry r) b lo i t e u = absurd lo
+  case-clear (regionExit r) b lo i t e u =
+      let same : b ≡ exitBlock F r (inNode (lo .node)) = ap blockOr (sym (find-unique T (unique-of T (walk-once F ok)) (regionExit r) b i)) ∙ laid F ok .exit-at (lo .stands) in
+      absurd (child-busy F ok t (lo .stands) (ap (λ (d : BlockLifting). soleTarget (d .term)) (sym same) ∙ e) u)
+  case-clear (nodeEntry n) b lo i t e u = absurd lo
+  case-clear (nodeExit n) b lo i t e u = absurd lo
+
+  target-clear : (x : CfgPoint × BlockLifting) → In x T → Clear T (x .1)
+  target-clear x i = elim (all-in _ T (terms F ok) x i) [ inl lo ↦ case-clear (x .0) (x .1) lo i | inr f ↦ fed-clear x f ]
 
   pub by-count-alone : keptByCount (walkOf F) ≡ kept (walkOf F)
   by-count-alone = kept-same T (all-from (λ (x : CfgPoint × BlockLifting). Clear T (x .1)) T target-clear)

@@ -22,7 +22,7 @@ use Rattle.runs.specs.KeptTerms.{SameKeys, absorb-shape, in-keep, keep-find}
 use Rattle.flat.specs.Flat.{fuseAll, fuseFrom, fuseStep, glues, gluesTo, noKeys}
 use Rattle.flat.specs.Gathered.{gather-append}
 use Rattle.flat.specs.Chain.{chain-all}
-use Rattle.runs.specs.Shaped.{Shaped, terms, tidy, walk-once}
+use Rattle.runs.specs.Shaped.{Shaped, leads, tidy, walk-once}
 use Rattle.flat.specs.Steps.{Step, step-entry, step-exit, step-in, step-out, walk-steps}
 use Rattle.flat.specs.Uses.{before-node, leads-there, merge-select, used-once}
 use Rattle.flat.specs.Neighbours.{kept-fused}
@@ -215,7 +215,7 @@ module _ (F : Func) (ok : Shaped F) where
       by-count zero z = dropped z (find eqPoint q K) refl (find eqPoint q T) refl
       by-count (suc n) z =
           ap (λ (o : Option BlockLifting). blockOr o .defaults) (find-keep (absorb T .counts) U q (omega arith))
-          ∙ same-found (find eqPoint q U) (find eqPoint q T) (absorb-shape T (terms F ok) .same q)
+          ∙ same-found (find eqPoint q U) (find eqPoint q T) (absorb-shape T (leads F ok) .same q)
 
   pub edge-kept : (t : Terminator) (q : CfgPoint) → edgeOf (kept (walkOf F)) t q ≡ edgeOf (walkOf F) t q
   edge-kept t q = ap (λ (l : List Value). valsOr (find eqPoint q (t .vals)) l) (defaults-kept q)

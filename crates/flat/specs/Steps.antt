@@ -1,17 +1,17 @@
 -- The walk, entry by entry: the region or node that each entry is of, and the point that stands next. Assumes nothing.
 use mathlib.Core.Path.{_≡_, refl, sym, ap, _∙_, subst}
-use mathlib.Core.Logic.{inl, inr}
 use mathlib.Core.List.{List, [], _∷_, _++_}
 use mathlib.Core.Option.{Option, none, some}
 use Prim.Native.Nat.{ℕ, zero, suc}
 use native.Mathlib.Omega.{arith}
-use Rattle.lifting.specs.Ast.{Func, Node, block, select, loop, exit}
+use Rattle.lifting.specs.Ast.{Func, Node}
 use Rattle.lifting.specs.Parts.{childrenOf, nodeOf, regionOf}
 use Rattle.lifting.specs.Points.{BlockLifting, CfgPoint, Table, nodeEntry, nodeExit, regionEntry, regionExit}
 use Rattle.lifting.specs.Order.{roots}
 use Rattle.lifting.specs.Walk.{Place, entryBlock, exitBlock, inBlock, inNode, nextPoint, outBlock, top, walkKids, walkNode, walkNodes, walkOf, walkRegion, walkRoots}
-use Rattle.runs.specs.Members.{In, here, in-cases, in-nil, there}
+use Rattle.runs.specs.Members.{In, here, there}
 use Rattle.runs.specs.Places.{Suffix, Visited, at-body, by-ctrl, in-case, in-loop, next, whole}
+use Rattle.runs.specs.Visits.{kid-visited}
 use Rattle.runs.specs.Accepted.{Root, Targets}
 use Rattle.runs.specs.Order.{roots-visited}
 use Rattle.flat.specs.Chain.{Chain, chain-append, first-append, firstOf}
@@ -44,19 +44,13 @@ module _ (F : Func) where
   placed tg (in-loop {b} v sf e) = subst (λ (d : Node). In b (childrenOf d)) (sym e) here
   placed tg (by-ctrl {r} {s} v e i) = tg .target-root r s e i
 
-  kid-visited : {r n c : ℕ} {p : Place} {ns : List ℕ} (d : Node) → nodeOf F n ≡ d → In c (childrenOf d) → Visited F r p → Suffix (regionOf F r .nodes) (n ∷ ns) → Visited F c (inNode n)
-  kid-visited (block is) e i v sf = absurd (in-nil i)
-  kid-visited (select k w cs ds) e i v sf = in-case v sf e i
-  kid-visited {n = n} (loop b k is) e i v sf = subst (λ (x : ℕ). Visited F x (inNode n)) (sym (elim (in-cases i) [ inl z ↦ z | inr z ↦ absurd (in-nil z) ])) (in-loop v sf e)
-  kid-visited (exit j ws) e i v sf = absurd (in-nil i)
-
   -- w walks a region at its place
   module _ (w : ℕ → Place → Table) (ih : (c : ℕ) (q : Place) (o : Option CfgPoint) → Visited F c q → (q ≡ top → Onto c o) → Chain Step (w c q) o) where
     steps-kids : {r n : ℕ} {p : Place} {ns : List ℕ} → Visited F r p → Suffix (regionOf F r .nodes) (n ∷ ns) → (cs : List ℕ) → ((c : ℕ) → In c cs → In c (childrenOf (nodeOf F n))) → (o : Option CfgPoint) → Chain Step (walkKids F w n cs) o
     steps-kids v sf [] sub o = tt
     steps-kids {n = n} v sf (c ∷ cs) sub o =
         chain-append Step (w c (inNode n)) (walkKids F w n cs) o
-        (ih c (inNode n) _ (kid-visited (nodeOf F n) refl (sub c here) v sf) (λ e. absurd (let z : _≡_ {A = ℕ} 0 1 = cc in omega arith)))
+        (ih c (inNode n) _ (kid-visited F (nodeOf F n) refl (sub c here) v sf) (λ e. absurd (let z : _≡_ {A = ℕ} 0 1 = cc in omega arith)))
         (steps-kids v sf cs (λ b i. sub b (there i)) o)
 
     steps-node : {r n : ℕ} {p : Place} {ns : List ℕ} → Visited F r p → Suffix (regionOf F r .nodes) (n ∷ ns) → Chain Step (walkNode F w n (nextPoint r ns)) (some (nextPoint r ns))

@@ -15,10 +15,10 @@ use Rattle.runs.specs.Places.{Suffix, Visited, in-loop, next, whole}
 use Rattle.runs.specs.AbsorbCount.{at-uses, in-count, two-uses}
 use Rattle.runs.specs.Tests.{find-in}
 use Rattle.runs.specs.Tour.{in-points}
-use Rattle.runs.specs.Terms.{TermOk}
+use Rattle.runs.specs.Terms.{TermLeads}
 use Rattle.flat.specs.Chain.{chain-all}
 use Rattle.flat.specs.Beside.{Leads}
-use Rattle.runs.specs.Shaped.{Shaped, laid, terms, visited-exit, visited-out}
+use Rattle.runs.specs.Shaped.{Shaped, laid, leads, visited-exit, visited-out}
 use Rattle.flat.specs.Steps.{Step, step-entry, step-exit, step-in, step-out, walk-steps}
 
 -- q is a target or a merge label of the block at p
@@ -96,6 +96,6 @@ module _ (F : Func) (ok : Shaped F) where
       (all-append Seen (mergeLabels (x .1 .term .merge)) (x .1 .term .targets)
       (all-in (λ y. All Seen (mergeLabels (y .1 .term .merge))) T (chain-all (Step F) _ step-merges T none (walk-steps F ok)) x i)
       (all-from Seen (x .1 .term .targets) (λ p h.
-      let w = all-in (λ y. TermOk T (y .1 .term)) T (terms F ok) x i .to p h in
+      let w = all-in (λ y. TermLeads T (y .1 .term)) T (leads F ok) x i .to p h in
       in-points T (p, w .0) (find-in eqPoint p T (w .1)))))
       q j

@@ -1,5 +1,5 @@
--- Document 01, refusal 6: unequal counts. Assumes nothing.
-use mathlib.Core.Bool.{Bool, true, _&&_}
+-- Document 01, refusal 6: unequal counts, where document 02, W2, lets a case off. Assumes nothing.
+use mathlib.Core.Bool.{Bool, true, false, _&&_, _||_}
 use mathlib.Core.List.{List, [], _∷_}
 use Prim.Native.Nat.{ℕ}
 use native.Mathlib.Decide.{ℕ-discrete}
@@ -7,18 +7,34 @@ use lib.Dec.{leb, ltb, eqb}
 use lib.ListN.{length}
 use Rattle.lifting.specs.Lists.{every}
 use Rattle.lifting.specs.Ast.{SelectionKind, boolCond, spvInst, Node, block, select, loop, exit, ControlInst, Region, Func}
-use Rattle.lifting.specs.Parts.{regionOf, valsFor}
+use Rattle.lifting.specs.Parts.{nodeOf, regionOf, valsFor}
 
 -- `bool` without 2 cases; another select without cases
 abbrev pub casesFit : SelectionKind → ℕ → Bool
 casesFit boolCond n = eqb n 2
 casesFit (spvInst i) n = ltb 0 n
 
+-- W2: 'a case whose last node is an exit'. The last by its region's list is itself an exit node.
+abbrev pub isExit : Node → Bool
+isExit (block is) = false
+isExit (select k v cs ds) = false
+isExit (loop b c vs) = false
+isExit (exit i vs) = true
+
+abbrev pub endsInExit : Func → List ℕ → Bool
+endsInExit F [] = false
+endsInExit F (n ∷ []) = isExit (nodeOf F n)
+endsInExit F (n ∷ m ∷ ns) = endsInExit F (m ∷ ns)
+
+-- case outputs and outs; such a case 'may now have no outputs at all'
+abbrev pub outsFit : Func → ℕ → ℕ → Bool
+outsFit F c n = eqb (length (regionOf F c .outs)) n || (eqb (length (regionOf F c .outs)) 0 && endsInExit F (regionOf F c .nodes))
+
 -- a loop's inits, its body's inputs, its body's outputs; case outputs and outs; a case with inputs
 abbrev pub nodeFits : Func → Node → Bool
 nodeFits F (block is) = true
 nodeFits F (select k v cs ds) =
-    every (λ c. eqb (length (regionOf F c .ins)) 0 && eqb (length (regionOf F c .outs)) (length ds)) cs && casesFit k (length cs)
+    every (λ c. eqb (length (regionOf F c .ins)) 0 && outsFit F c (length ds)) cs && casesFit k (length cs)
 nodeFits F (loop b c vs) =
     eqb (length vs) (length (regionOf F b .ins)) && eqb (length (regionOf F b .outs)) (length (regionOf F b .ins))
 nodeFits F (exit i vs) = true

@@ -29,3 +29,4 @@ pub mod Starred
 pub mod Witness
 pub mod Endings
 pub mod LastLap
+pub mod KilledCase

@@ -131,6 +131,26 @@ further =
     ∷ row "(func 0 2 3 0)\n(const 5 43)\n(region (in) (nodes) (out))\n(region (in) (nodes) (out))\n(ctrl 0 0 bool (ins (c 0)) (to 1 1) (vals))\n(ctrl 1 0 return (ins) (to) (vals))\n" 5
     (refuses 13)
     ∷ row "(func 0 2 3 0)\n(const 5 43)\n(region (in) (nodes) (out))\n(ctrl 0 0 bool (ins (c 0)) (to 0 0) (vals))\n" 10 (refuses 7)
+    -- a case that ends in an exit and has no outputs, beside a select with outs: it sends no value (document 02, W2)
+    ∷ row "(func 0 2 3 0)\n(const 5 43)\n(region (in) (nodes 0) (out (n 0 0)))\n(region (in) (nodes) (out (c 0)))\n(region (in) (nodes 1) (out))\n(select bool (c 0) (cases 1 2) (outs (0 4)))\n(exit (inst 252))\n" 20
+    (gives (54 ∷ 0 ∷ 2 ∷ 20 ∷ 1 ∷ 0 ∷ 1 ∷ 0 ∷ 1 ∷ 3 ∷ 248 ∷ 0 ∷ 0 ∷ 22 ∷ 0 ∷ 0 ∷ 247 ∷ 0 ∷ 0 ∷ 0 ∷ 1 ∷ 0 ∷ 2 ∷ 0 ∷ 1 ∷ 25 ∷ 250 ∷ 0 ∷ 0 ∷ 0 ∷ 0 ∷ 3 ∷ 5 ∷ 23 ∷ 24 ∷ 248 ∷ 0 ∷ 0 ∷ 23 ∷ 0 ∷ 0 ∷ 249 ∷ 0 ∷ 0 ∷ 0 ∷ 0 ∷ 1 ∷ 25 ∷ 248 ∷ 0 ∷ 0 ∷ 24 ∷ 0 ∷ 0 ∷ 252 ∷ 0 ∷ 0 ∷ 0 ∷ 0 ∷ 0 ∷ 248 ∷ 0 ∷ 0 ∷ 25 ∷ 0 ∷ 0 ∷ 245 ∷ 0 ∷ 4 ∷ 21 ∷ 0 ∷ 2 ∷ 5 ∷ 23 ∷ 254 ∷ 0 ∷ 0 ∷ 0 ∷ 0 ∷ 1 ∷ 21 ∷ 56 ∷ 0 ∷ 0 ∷ 0 ∷ 0 ∷ 0 ∷ []) 26)
+    -- no case sends one: the phi has no pair
+    ∷ row "(func 0 2 3 0)\n(const 5 43)\n(region (in) (nodes 0) (out (n 0 0)))\n(region (in) (nodes 1) (out))\n(region (in) (nodes 2) (out))\n(select bool (c 0) (cases 1 2) (outs (0 4)))\n(exit (inst 252))\n(exit (inst 252))\n" 20
+    (pairsOfPhis (0 ∷ []))
+    -- but for this, outputs are as many as outs: where the exit is not the last node; where there are fewer but not none; beside a select
+    -- without outs; where the last node is a select all of whose cases exit; where it is a loop whose body exits; and of a loop's body
+    ∷ row "(func 0 2 3 0)\n(const 5 43)\n(region (in) (nodes 0) (out))\n(region (in) (nodes) (out (c 0)))\n(region (in) (nodes 1 2) (out))\n(select bool (c 0) (cases 1 2) (outs (0 4)))\n(exit (inst 252))\n(block)\n" 20
+    (refuses 6)
+    ∷ row "(func 0 2 3 0)\n(const 5 43)\n(region (in) (nodes 0) (out))\n(region (in) (nodes) (out (c 0) (c 0)))\n(region (in) (nodes 1) (out (c 0)))\n(select bool (c 0) (cases 1 2) (outs (0 4) (0 4)))\n(exit (inst 252))\n" 20
+    (refuses 6)
+    ∷ row "(func 0 2 3 0)\n(const 5 43)\n(region (in) (nodes 0) (out))\n(region (in) (nodes) (out))\n(region (in) (nodes 1) (out (c 0)))\n(select bool (c 0) (cases 1 2) (outs))\n(exit (inst 252))\n" 20
+    (refuses 6)
+    ∷ row "(func 0 2 3 0)\n(const 5 43)\n(region (in) (nodes 0) (out))\n(region (in) (nodes) (out (c 0)))\n(region (in) (nodes 1) (out))\n(region (in) (nodes 2) (out))\n(region (in) (nodes 3) (out))\n(select bool (c 0) (cases 1 2) (outs (0 4)))\n(select bool (c 0) (cases 3 4) (outs))\n(exit (inst 252))\n(exit (inst 252))\n" 20
+    (refuses 6)
+    ∷ row "(func 0 2 3 0)\n(const 5 43)\n(region (in) (nodes 0) (out))\n(region (in) (nodes) (out (c 0)))\n(region (in) (nodes 1) (out))\n(region (in) (nodes 2) (out))\n(select bool (c 0) (cases 1 2) (outs (0 4)))\n(loop 3 (c 0) (init))\n(exit (inst 252))\n" 20
+    (refuses 6)
+    ∷ row "(func 0 2 3 0)\n(const 5 43)\n(region (in) (nodes 0) (out))\n(region (in (0 4)) (nodes 1) (out))\n(loop 1 (c 0) (init (c 0)))\n(exit (inst 252))\n" 20
+    (refuses 6)
     -- an imported function has no blocks
     ∷ row "(func 0 2 3 0)\n(param 0 4)\n(imported)\n" 20
     (gives (54 ∷ 0 ∷ 2 ∷ 20 ∷ 1 ∷ 0 ∷ 1 ∷ 0 ∷ 1 ∷ 3 ∷ 55 ∷ 0 ∷ 4 ∷ 21 ∷ 0 ∷ 0 ∷ 56 ∷ 0 ∷ 0 ∷ 0 ∷ 0 ∷ 0 ∷ []) 22)

@@ -16,14 +16,12 @@ use Rattle.lifting.specs.Control.{controlFits}
 use Rattle.lifting.specs.Points.{BlockLifting, CfgPoint, Table, Terminator, eqPoint, nodeEntry, nodeExit, regionEntry, regionExit}
 use Rattle.lifting.specs.Walk.{Place, always, childTerm, exitTerm, inBlock, inNode, loopTerm, rootTerm, someVals, top, walkOf}
 use Rattle.func.specs.Decode.{funcOf}
-use Rattle.runs.specs.Members.{All, In, NoDup, all-in, in-getD}
+use Rattle.runs.specs.Members.{All, In, NoDup, in-getD}
 use Rattle.runs.specs.Tests.{all-split}
 use Rattle.runs.specs.Refers.{Named, Refers}
 use Rattle.runs.specs.Tour.{find-unique, unique-of}
-use Rattle.runs.specs.Terms.{TermOk}
-use Rattle.runs.specs.Shaped.{terms}
 use Rattle.flat.specs.Flat.{Status, goes, gone, noPair, starts}
-use Rattle.flat.specs.Laws.{each-once}
+use Rattle.flat.specs.Laws.{each-once, stands-fit}
 use Rattle.points.specs.Numbers.{Small}
 use Rattle.points.specs.Walk.{Walkable}
 use Rattle.term.specs.At.{block-is, blockAt, blockOf, placeIn, pointAt}
@@ -149,8 +147,7 @@ module _ (F : Func) (i : ℕ) {o : ℕ × ℕ} (x : In o (edgesInto F (pointAt F
         let q : CfgPoint = pointAt F i in
         let t : Terminator = blockAt F (o .0) .term in
         let c = carries F (ok .shaped) control (o .0) origin-low in
-        let w = all-in (λ (y : CfgPoint × BlockLifting). TermOk T (y .1 .term)) T (terms F (ok .shaped)) (getD T (o .0) noPair) (in-getD T (o .0) noPair origin-low)
-        .to q (edge-target t c (origin .edge)) in
+        let w = stands-fit F (ok .shaped) (o .0) origin-low origin-kept .to q (edge-target t c (origin .edge)) in
         let same : some (w .0) ≡ some (blockAt F i) = sym (w .1) ∙ find-unique T (unique-of T (each-once F (ok .shaped))) q (blockAt F i) (in-getD T i noPair h) in
         let here : w .0 ≡ blockAt F i = cc in
         subst (λ (b : BlockLifting). length (b .keys) ≡ length (valsOr (find eqPoint q (t .vals)) (b .defaults))) here (w .2)

@@ -2,20 +2,20 @@
 use mathlib.Core.Path.{_≡_, refl, sym, ap, _∙_, subst}
 use mathlib.Core.Logic.{_⊎_, inl, inr}
 use mathlib.Core.List.{List, [], _∷_}
-use mathlib.Core.Option.{Option, none, some}
+use mathlib.Core.Option.{Option, some}
 use Prim.Native.Nat.{ℕ, zero, suc, _<_}
-use native.Mathlib.Decide.{ℕ-discrete}
 use native.Mathlib.Omega.{arith}
 use lib.ListN.{getD, length}
 use Rattle.lifting.specs.Lists.{choose, choose-no, find}
 use Rattle.lifting.specs.Ast.{ControlInstKind, Func, Value, branch, exitInvocation, return, selectBranch, unreachable}
 use Rattle.lifting.specs.Parts.{opOf, valsOr}
-use Rattle.lifting.specs.Points.{BlockLifting, CfgPoint, Table, Terminator, blockAt, blockOr, eqPoint, points, regionEntry, straight}
-use Rattle.lifting.specs.Absorb.{Absorbing, absorb, absorbAll, firstUse, fuse, ifNoPhis, keep, keepIf, kept, soleTarget, tryTarget, useCount}
+use Rattle.lifting.specs.Points.{BlockLifting, CfgPoint, Table, Terminator, blockAt, blockOr, eqPoint, regionEntry, straight}
+use Rattle.lifting.specs.Absorb.{Absorbing, absorb, firstUse, fuse, keep, keepIf, kept, soleTarget, useCount}
 use Rattle.lifting.specs.Machine.{Alike, go}
 use Rattle.lifting.specs.World.{Mem, World, pick, reading, reads}
 use Rattle.lifting.specs.RegionRun.{atFirst, execute, sets}
 use Rattle.runs.specs.Members.{In}
+use Rattle.runs.specs.Each.{after-all, taken}
 use Rattle.runs.specs.Simulation.{Macro, MeetOut, alike-of, alike-refl, alike-trans, at-once, out-go, out-halt}
 use Rattle.runs.specs.PointRun.{PointState, doOps, edge, jump, leavePoint, pointLog, pointStart, pointStep, pointWay}
 use Rattle.runs.specs.Structure.{meet-reading}
@@ -78,8 +78,7 @@ pub record Kept (F : Func) {Val : Type 0} (W : World Val) (T : Table) (s : Absor
       (pointStart F W (blockAt T)) (pointStart F W (blockAt (s .table)))
 
 module _ (F : Func) {Val : Type 0} (W : World Val) (T : Table) where
-  one-more : (b t : CfgPoint) (s : Absorbing) → Kept F W T s → soleTarget (blockAt (s .table) b .term) ≡ some t → s .counts t ≡ 1 → blockAt (s .table) t .keys ≡ []
-      → Kept F W T (record { table = fuse b t (blockAt (s .table) t) (s .table); counts = λ q. choose (eqPoint q t) 0 (s .counts q) })
+  one-more : (b t : CfgPoint) (s : Absorbing) → Kept F W T s → soleTarget (blockAt (s .table) b .term) ≡ some t → s .counts t ≡ 1 → blockAt (s .table) t .keys ≡ [] → Kept F W T (taken b t s)
   one-more b t s k e u ks =
       let U = s .table in
       let c = blockAt U t in
@@ -96,28 +95,9 @@ module _ (F : Func) {Val : Type 0} (W : World Val) (T : Table) where
             (absorbed-alike F W (blockAt U) (blockAt (fuse b t c U)) b t (absorbed-of U b t (k .tidy .starts) l u-right ks (k .tidy .no-phis t ks)));
       }
 
-  try-one : (b : CfgPoint) (s : Absorbing) → Kept F W T s → (o : Option CfgPoint) → soleTarget (blockAt (s .table) b .term) ≡ o → Kept F W T (tryTarget b o s)
-  try-one b s k none e = k
-  try-one b s k (some t) e = by-count (ℕ-discrete (s .counts t) 1)
-    where
-      next : Absorbing
-      next = record { table = fuse b t (blockAt (s .table) t) (s .table); counts = λ q. choose (eqPoint q t) 0 (s .counts q) }
-
-      by-keys : s .counts t ≡ 1 → (ks : List Value) → blockAt (s .table) t .keys ≡ ks → Kept F W T (ifNoPhis ks next s)
-      by-keys u [] h = one-more b t s k e u h
-      by-keys u (x ∷ ks) h = k
-
-      by-count : (d : Dec (s .counts t ≡ 1)) → Kept F W T (choose d (ifNoPhis (blockAt (s .table) t .keys) next s) s)
-      by-count (yes u) = by-keys u (blockAt (s .table) t .keys) refl
-      by-count (no n) = k
-
-  try-all : (l : List CfgPoint) (s : Absorbing) → Kept F W T s → Kept F W T (absorbAll l s)
-  try-all [] s k = k
-  try-all (b ∷ l) s k = let r = try-all l s k in try-one b (absorbAll l s) r (soleTarget (blockAt (absorbAll l s .table) b .term)) refl
-
   pub absorb-kept : Tidy T → Kept F W T (absorb T)
-  unfolding absorb useCount
-  absorb-kept t = try-all (points T) (record { table = T; counts = useCount T }) (record { tidy = t; counted = λ q. refl; alike = alike-refl })
+  unfolding useCount
+  absorb-kept t = after-all (Kept F W T) one-more T (record { tidy = t; counted = λ q. refl; alike = alike-refl })
 
 -- dropping points of count 0
 pub find-keep : (c : CfgPoint → ℕ) (T : Table) (q : CfgPoint) → 0 < c q → find eqPoint q (keep c T) ≡ find eqPoint q T

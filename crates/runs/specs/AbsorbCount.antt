@@ -105,7 +105,7 @@ refit-keys b t c p d = by-case (eqPoint p t) (eqPoint p b)
     by-case (no n) (yes e) = (refl, refl)
     by-case (no n) (no m) = (refl, refl)
 
-block-other : (b t : CfgPoint) (c : BlockLifting) (T : Table) (q : CfgPoint) → ¬ (q ≡ t) → ¬ (q ≡ b) → blockAt (fuse b t c T) q ≡ blockAt T q
+pub block-other : (b t : CfgPoint) (c : BlockLifting) (T : Table) (q : CfgPoint) → ¬ (q ≡ t) → ¬ (q ≡ b) → blockAt (fuse b t c T) q ≡ blockAt T q
 block-other b t c T q nt nb = ap blockOr (find-fuse b t c T q) ∙ by-case (find eqPoint q T)
   where
     by-case : (o : Option BlockLifting) → blockOr (onSome (refit b t c q) o) ≡ blockOr o

@@ -1,6 +1,7 @@
 -- What the refusals leave of a text with a body, as its runs need it: each field under the refusal that gives it. Assumes nothing.
 use mathlib.Core.Path.{_≡_}
-use mathlib.Core.Bool.{false}
+use mathlib.Core.Logic.{_⊎_}
+use mathlib.Core.Bool.{false, true}
 use mathlib.Core.List.{List}
 use mathlib.Core.Option.{some}
 use Prim.Native.Nat.{ℕ, suc, _<_}
@@ -10,6 +11,7 @@ use Rattle.lifting.specs.Lists.{within}
 use Rattle.lifting.specs.Ast.{ControlInst, ControlInstKind, DataInstKind, Decl, Func, Inst, SelectionKind, Value, boolCond, branch, call, const, dataInstOutput, exit, exitInvocation, ext, inst, loop, regionInput, return, select, selectBranch, spvInst, unreachable}
 use Rattle.lifting.specs.Parts.{blockOps, childrenOf, constOf, ctrlOf, nodeOf, opOf, regionOf, valsFor}
 use Rattle.lifting.specs.Tree.{aroundItself}
+use Rattle.lifting.specs.Counts.{endsInExit}
 use Rattle.lifting.specs.Points.{BlockLifting, CfgPoint, Table, edgeOf}
 use Rattle.lifting.specs.Walk.{walkOf}
 use Rattle.lifting.specs.Absorb.{kept}
@@ -47,6 +49,10 @@ WayFit branch n = n ≡ 1
 WayFit (selectBranch k) n = Enough k n
 WayFit (exitInvocation i) n = n ≡ 0
 
+-- 6: a case has as many outputs as its select has outs, or none at all where its last node is an exit (W2)
+abbrev pub OutsFit : Func → ℕ → ℕ → Type 0
+OutsFit F c n = (length (regionOf F c .outs) ≡ n) ⊎ ((length (regionOf F c .outs) ≡ 0) × (endsInExit F (regionOf F c .nodes) ≡ true))
+
 -- no child
 abbrev pub Root : Func → ℕ → Type 0
 Root F r = (n : ℕ) → In r (childrenOf (nodeOf F n)) → ⊥
@@ -82,7 +88,7 @@ module _ (F : Func) where
     -- 6: unequal counts
     pub loop-ins : (n : ℕ) {b : ℕ} {c : Value} {is : List Value} → nodeOf F n ≡ loop b c is → length is ≡ length (regionOf F b .ins)
     pub loop-outs : (n : ℕ) {b : ℕ} {c : Value} {is : List Value} → nodeOf F n ≡ loop b c is → length (regionOf F b .outs) ≡ length (regionOf F b .ins)
-    pub case-outs : (n c : ℕ) {k : SelectionKind} {v : Value} {cs : List ℕ} {ds : List Decl} → nodeOf F n ≡ select k v cs ds → In c cs → length (regionOf F c .outs) ≡ length ds
+    pub case-outs : (n c : ℕ) {k : SelectionKind} {v : Value} {cs : List ℕ} {ds : List Decl} → nodeOf F n ≡ select k v cs ds → In c cs → OutsFit F c (length ds)
     pub edge-ins : (r s : ℕ) {c : ControlInst} → ctrlOf F r ≡ some c → In s (c .to) → length (valsFor c s) ≡ length (regionOf F s .ins)
     pub cases-count : (n : ℕ) {k : SelectionKind} {v : Value} {cs : List ℕ} {ds : List Decl} → nodeOf F n ≡ select k v cs ds → Enough k (length cs)
     -- 7: counts of targets

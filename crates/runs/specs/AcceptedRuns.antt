@@ -32,7 +32,8 @@ use Rattle.runs.specs.Tour.{find-unique}
 use Rattle.runs.specs.Tests.{find-in}
 use Rattle.runs.specs.Each.{every-walked}
 use Rattle.runs.specs.Terms.{TermOk}
-use Rattle.runs.specs.Shaped.{Shaped, laid, shaped-accepted, terms, tidy}
+use Rattle.runs.specs.Shaped.{Shaped, laid, leads, shaped-accepted, tidy}
+use Rattle.runs.specs.EndedKept.{kept-term}
 use Rattle.runs.specs.KeptTerms.{SameKeys, Shape, absorb-shape, in-keep, in-uses, same-some, some-same}
 
 -- any world will do: what the emitter needs of the blocks does not depend on it
@@ -65,7 +66,7 @@ module _ (F : Func) (first : ℕ) (ok : Accepted F first) (body : hasBody (F .re
   shaped = shaped-accepted F first ok body
 
   shape : Shape T U
-  shape = absorb-shape T (terms F shaped)
+  shape = absorb-shape T (leads F shaped)
 
   -- phi keys are no constants
   unfoldable pub NoCon : Value → Type 0
@@ -166,7 +167,7 @@ module _ (F : Func) (first : ℕ) (ok : Accepted F first) (body : hasBody (F .re
         ((ok .fitting .op-free i, known-all (opOf F i .operands) (ok .settles .operands x i h (sub i here)), result-ok x i h (sub i here) (opOf F i .type) refl), ops-all x h is (λ j k. sub j (there k)))
 
     term-of : (x : CfgPoint × BlockLifting) → In x K → TermOk T (x .1 .term)
-    term-of x h = all-in (λ (y : CfgPoint × BlockLifting). TermOk T (y .1 .term)) U (shape .terms) x (kept-before x h .0)
+    term-of x h = kept-term F shaped x h
 
     -- the target of a kept block, in the table before the drop
     target-at : (x : CfgPoint × BlockLifting) (q : CfgPoint) → In x K → In q (x .1 .term .targets) → 0 < absorb T .counts q

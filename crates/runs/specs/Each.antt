@@ -14,7 +14,7 @@ use Rattle.lifting.specs.Parts.{regionOf, nodeOf, childrenOf, hasBody}
 use Rattle.lifting.specs.Order.{roots}
 use Rattle.lifting.specs.Points.{CfgPoint, regionEntry, regionExit, nodeEntry, nodeExit, eqPoint, BlockLifting, Table, points, nothingHere, plain, blockOr, blockAt}
 use Rattle.lifting.specs.Walk.{Place, top, inNode, nextPoint, entryBlock, exitBlock, inBlock, outBlock, walkKids, walkNode, walkNodes, walkRegion, walkRoots, walkOf}
-use Rattle.lifting.specs.Absorb.{useCount, soleTarget, emptied, joined, fuse, Absorbing, ifNoPhis, tryTarget, absorbAll, absorb, keepIf, keep, kept}
+use Rattle.lifting.specs.Absorb.{useCount, soleTarget, emptied, joined, fuse, Absorbing, ifNoPhis, tryTarget, absorbAt, absorbAll, absorb, keepIf, keep, kept}
 use Rattle.runs.specs.Members.{In, here, there, All, all-append, all-in}
 use Rattle.runs.specs.Tests.{find-in}
 
@@ -55,30 +55,39 @@ module _ (F : Func) (P : CfgPoint × BlockLifting → Type 0) {R : ℕ → Type 
       by-body true = every-point (suc (length (F .regions))) (roots F) h
       by-body false = tt
 
--- What every absorption leaves as it is holds of the table after all of them.
-module _ (I : Table → Type 0) (fuses : (b t : CfgPoint) (T : Table) → I T → I (fuse b t (blockAt T t) T)) where
-  after-try : (b : CfgPoint) (o : Option CfgPoint) (s : Absorbing) → I (s .table) → I (tryTarget b o s .table)
-  after-try b none s h = h
-  after-try b (some t) s h = by-count (ℕ-discrete (s .counts t) 1)
+-- the block at b absorbs the block at t
+abbrev pub taken : CfgPoint → CfgPoint → Absorbing → Absorbing
+taken b t s = record { table = fuse b t (blockAt (s .table) t) (s .table); counts = λ q. choose (eqPoint q t) 0 (s .counts q) }
+
+-- What every absorption leaves as it is holds after all of them. An absorption is of a sole target of count 1 without phis.
+module _ (I : Absorbing → Type 0) (takes : (b t : CfgPoint) (s : Absorbing) → I s → soleTarget (blockAt (s .table) b .term) ≡ some t → s .counts t ≡ 1 → blockAt (s .table) t .keys ≡ [] → I (taken b t s)) where
+  after-target : (b : CfgPoint) (o : Option CfgPoint) (s : Absorbing) → I s → soleTarget (blockAt (s .table) b .term) ≡ o → I (tryTarget b o s)
+  after-target b none s h e = h
+  after-target b (some t) s h e = by-count (ℕ-discrete (s .counts t) 1)
     where
-      then : Absorbing
-      then = record { table = fuse b t (blockAt (s .table) t) (s .table); counts = λ q. choose (eqPoint q t) 0 (s .counts q) }
+      by-keys : s .counts t ≡ 1 → (ks : List Value) → blockAt (s .table) t .keys ≡ ks → I (ifNoPhis ks (taken b t s) s)
+      by-keys u [] k = takes b t s h e u k
+      by-keys u (x ∷ ks) k = h
 
-      by-keys : (ks : List Value) → I (ifNoPhis ks then s .table)
-      by-keys [] = fuses b t (s .table) h
-      by-keys (k ∷ ks) = h
-
-      by-count : (d : Dec (s .counts t ≡ 1)) → I (choose d (ifNoPhis (blockAt (s .table) t .keys) then s) s .table)
-      by-count (yes e) = by-keys (blockAt (s .table) t .keys)
+      by-count : (d : Dec (s .counts t ≡ 1)) → I (choose d (ifNoPhis (blockAt (s .table) t .keys) (taken b t s) s) s)
+      by-count (yes u) = by-keys u (blockAt (s .table) t .keys) refl
       by-count (no n) = h
 
-  after-all : (l : List CfgPoint) (s : Absorbing) → I (s .table) → I (absorbAll l s .table)
-  after-all [] s h = h
-  after-all (b ∷ l) s h = after-try b (soleTarget (blockAt (absorbAll l s .table) b .term)) (absorbAll l s) (after-all l s h)
+  pub after-turn : (b : CfgPoint) (s : Absorbing) → I s → I (absorbAt b s)
+  after-turn b s h = after-target b (soleTarget (blockAt (s .table) b .term)) s h refl
 
-  pub after-absorb : (T : Table) → I T → I (absorb T .table)
+  pub after-turns : (l : List CfgPoint) (s : Absorbing) → I s → I (absorbAll l s)
+  after-turns [] s h = h
+  after-turns (b ∷ l) s h = after-turn b (absorbAll l s) (after-turns l s h)
+
+  pub after-all : (T : Table) → I (record { table = T; counts = useCount T }) → I (absorb T)
   unfolding absorb
-  after-absorb T h = after-all (points T) (record { table = T; counts = useCount T }) h
+  after-all T h = after-turns (points T) (record { table = T; counts = useCount T }) h
+
+-- of the table alone
+module _ (I : Table → Type 0) (fuses : (b t : CfgPoint) (T : Table) → I T → I (fuse b t (blockAt T t) T)) where
+  pub after-absorb : (T : Table) → I T → I (absorb T .table)
+  after-absorb T h = after-all (λ s. I (s .table)) (λ b t s i e u k. fuses b t (s .table) i) T h
 
 -- each block
 abbrev pub Each : (BlockLifting → Type 0) → Table → Type 0

@@ -1,6 +1,7 @@
 -- Refusals 5, 6, 7, 13 and 9 as the facts that a run needs: each is one of their tests, read at one line. Assumes nothing.
 use mathlib.Core.Path.{_≡_, refl}
-use mathlib.Core.Bool.{Bool, true, false≢true, _&&_}
+use mathlib.Core.Logic.{inl, inr}
+use mathlib.Core.Bool.{Bool, true, false, false≢true, _&&_, _||_}
 use mathlib.Core.List.{List, [], _∷_}
 use mathlib.Core.Option.{some}
 use Prim.Native.Nat.{ℕ, zero, suc, _≤_, _<_}
@@ -14,14 +15,14 @@ use Rattle.lifting.specs.Ast.{Value, SelectionKind, boolCond, spvInst, DataInst
 use Rattle.lifting.specs.Parts.{constOf, regionOf, nodeOf, opOf, ctrlOf, hasBody, childrenOf, blockOps, valsFor, selectionInsts, opInsts, ctrlInsts, nodeList, opList, childList, requiredIds, ids}
 use Rattle.lifting.specs.Limits.{highestId}
 use Rattle.lifting.specs.Tree.{aroundItself, isTree}
-use Rattle.lifting.specs.Counts.{casesFit, nodeFits, edgesFit, bodyFits, countsAgree}
+use Rattle.lifting.specs.Counts.{casesFit, endsInExit, outsFit, nodeFits, edgesFit, bodyFits, countsAgree}
 use Rattle.lifting.specs.Control.{kindFits, isRoot, ctrlFits, controlFits, boolDistinct, targetsDiffer}
 use Rattle.lifting.specs.Walk.{walkOf}
 use Rattle.lifting.specs.Absorb.{kept}
 use Rattle.lifting.specs.Ids.{nextId}
 use Rattle.lifting.specs.Answer.{idsFit}
 use Rattle.runs.specs.Members.{In, there, in-left, in-map, in-getD, All, all-in, NoDup, not-within}
-use Rattle.runs.specs.Accepted.{FreeInst, FreeOp, FreeSelection, FreeKind, Enough, WayFit, Root, Forest, Targets, Fitting, Numbered}
+use Rattle.runs.specs.Accepted.{FreeInst, FreeOp, FreeSelection, FreeKind, Enough, WayFit, OutsFit, Root, Forest, Targets, Fitting, Numbered}
 use Rattle.runs.specs.Tests.{both, every-in, all-at, every-all, find-in, every-below, in-at, distinct-once, stands-once, once-at, same-place, once-by}
 use Rattle.runs.specs.Refers.{Refers}
 
@@ -160,12 +161,19 @@ module _ (F : Func) where
       let t = both (eqb (length is) n) (eqb (length (regionOf F b .outs)) n) e in
       (eqb-true (length is) n (t .0), eqb-true (length (regionOf F b .outs)) n (t .1))
 
-  select-fits : (k : SelectionKind) (v : Value) (cs : List ℕ) (ds : List Decl) → nodeFits F (select k v cs ds) ≡ true → All (λ c. length (regionOf F c .outs) ≡ length ds) cs × Enough k (length cs)
+  outs-fit : (c n : ℕ) → outsFit F c n ≡ true → OutsFit F c n
+  outs-fit c n e = by-test (eqb (length (regionOf F c .outs)) n) refl e
+    where
+      by-test : (a : Bool) → eqb (length (regionOf F c .outs)) n ≡ a → (a || (eqb (length (regionOf F c .outs)) 0 && endsInExit F (regionOf F c .nodes))) ≡ true → OutsFit F c n
+      by-test true q h = inl (eqb-true (length (regionOf F c .outs)) n q)
+      by-test false q h = let t = both (eqb (length (regionOf F c .outs)) 0) (endsInExit F (regionOf F c .nodes)) h in inr (eqb-true (length (regionOf F c .outs)) 0 (t .0), t .1)
+
+  select-fits : (k : SelectionKind) (v : Value) (cs : List ℕ) (ds : List Decl) → nodeFits F (select k v cs ds) ≡ true → All (λ c. OutsFit F c (length ds)) cs × Enough k (length cs)
   select-fits k v cs ds e =
       let none-in : ℕ → Bool = λ c. eqb (length (regionOf F c .ins)) 0 in
-      let case-fits : ℕ → Bool = λ c. none-in c && eqb (length (regionOf F c .outs)) (length ds) in
+      let case-fits : ℕ → Bool = λ c. none-in c && outsFit F c (length ds) in
       let t = both (every case-fits cs) (casesFit k (length cs)) e in
-      (every-all case-fits _ (λ c u. eqb-true (length (regionOf F c .outs)) (length ds) (both (none-in c) _ u .1)) cs (t .0), enough k (length cs) (t .1))
+      (every-all case-fits _ (λ c u. outs-fit c (length ds) (both (none-in c) _ u .1)) cs (t .0), enough k (length cs) (t .1))
 
   edge-fits : countsAgree F ≡ true → (r : ℕ) {c : ControlInst} → ctrlOf F r ≡ some c → (s : ℕ) → In s (c .to) → length (valsFor c s) ≡ length (regionOf F s .ins)
   unfolding countsAgree

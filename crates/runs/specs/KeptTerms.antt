@@ -11,7 +11,7 @@ use Rattle.lifting.specs.Absorb.{absorb, countIn, fuse, keep, keepIf, labels, r
 use Rattle.runs.specs.Members.{All, In, here, in-cases, in-nil, there}
 use Rattle.runs.specs.AbsorbCount.{find-fuse, onSome, refit-keys}
 use Rattle.runs.specs.Each.{after-absorb, each-absorbed}
-use Rattle.runs.specs.Terms.{TermOk, nothing-ok}
+use Rattle.runs.specs.Terms.{TermLeads, nothing-ok, ok-leads}
 
 -- two findings at one point: both there or not, with the same phis
 abbrev pub SameKeys : Option BlockLifting → Option BlockLifting → Type 0
@@ -43,7 +43,7 @@ some-same a none h = absurd h
 some-same a (some b) h = (b, refl, h .0, h .1)
 
 pub record Shape (T U : Table) : Type 0 where
-  pub terms : All (λ (x : CfgPoint × BlockLifting). TermOk T (x .1 .term)) U
+  pub leads : All (λ (x : CfgPoint × BlockLifting). TermLeads T (x .1 .term)) U
   pub same : (q : CfgPoint) → SameKeys (find eqPoint q U) (find eqPoint q T)
 
 module _ (T : Table) where
@@ -58,9 +58,9 @@ module _ (T : Table) where
   fuse-same b t U s q = keys-trans (find eqPoint q (fuse b t (blockAt U t) U)) (find eqPoint q U) (find eqPoint q T)
       (subst (λ (o : Option BlockLifting). SameKeys o (find eqPoint q U)) (sym (find-fuse b t (blockAt U t) U q)) (refit-same b t (blockAt U t) q (find eqPoint q U))) (s q)
 
-  pub absorb-shape : All (λ (x : CfgPoint × BlockLifting). TermOk T (x .1 .term)) T → Shape T (absorb T .table)
+  pub absorb-shape : All (λ (x : CfgPoint × BlockLifting). TermLeads T (x .1 .term)) T → Shape T (absorb T .table)
   absorb-shape h = record {
-    terms = each-absorbed (λ (b : BlockLifting). TermOk T (b .term)) (nothing-ok T) (λ b k. nothing-ok T) (λ b c k l. l) T h;
+    leads = each-absorbed (λ (b : BlockLifting). TermLeads T (b .term)) (ok-leads (nothing-ok T)) (λ b k. ok-leads (nothing-ok T)) (λ b c k l. l) T h;
     same = after-absorb Same fuse-same T (λ q. keys-refl (find eqPoint q T));
   }
 

@@ -23,9 +23,12 @@ pub mod TourOnce
 pub mod TourLaid
 pub mod Order
 pub mod Forest
+pub mod Visits
+pub mod Ended
 pub mod Terms
 pub mod KeptTerms
 pub mod Shaped
+pub mod EndedKept
 pub mod AcceptedRuns
 pub mod IdsOnce
 pub mod Numbering

@@ -1,6 +1,7 @@
 -- What refusals 1 to 7 leave of a text with a body, and the walk of such a text: each point once, with the block that is meant to stand there.
 -- Ids and refusal 10 come later, so nothing here asks for them. Assumes nothing.
 use mathlib.Core.Path.{_≡_, sym, ap, _∙_, subst}
+use mathlib.Core.Logic.{_⊎_}
 use mathlib.Core.Bool.{Bool, true, false}
 use mathlib.Core.List.{List, [], _∷_}
 use Prim.Native.Nat.{ℕ, suc, _<_}
@@ -14,7 +15,7 @@ use Rattle.lifting.specs.Control.{controlFits}
 use Rattle.lifting.specs.Order.{roots}
 use Rattle.lifting.specs.Points.{BlockLifting, CfgPoint, Table, blockAt, nodeExit, points, regionEntry, regionExit}
 use Rattle.lifting.specs.Walk.{Place, entryBlock, top, walkOf, walkRoots}
-use Rattle.runs.specs.Members.{All, In, NoDup, here}
+use Rattle.runs.specs.Members.{All, In, NoDup, all-left, all-right, here}
 use Rattle.runs.specs.Accepted.{Accepted, Fitting, Forest, Targets}
 use Rattle.runs.specs.Refers.{refers}
 use Rattle.runs.specs.Fits
@@ -25,7 +26,8 @@ use Rattle.runs.specs.TourOnce.{roots-nodup}
 use Rattle.runs.specs.TourLaid.{Roots, covers, here-exit, here-out, walk-laid, walk-tidy}
 use Rattle.runs.specs.Order.{roots-ok, roots-visited}
 use Rattle.runs.specs.Forest.{tree-of}
-use Rattle.runs.specs.Terms.{TermOk, walk-terms}
+use Rattle.runs.specs.Ended.{Behind, LetOff, walk-behind}
+use Rattle.runs.specs.Terms.{TermLeads, TermOk, walk-terms}
 
 pub record Shaped (F : Func) : Type 0 where
   pub body : hasBody (F .regions) ≡ true
@@ -85,6 +87,18 @@ module _ (F : Func) (ok : Shaped F) where
   pub tidy : Tidy (walkOf F)
   tidy = subst Tidy walk-is (walk-tidy F depth tree (roots F) in-order (λ n b c is e. ok .fitting .loop-ins n e))
 
-  pub terms : All (λ (x : CfgPoint × BlockLifting). TermOk (walkOf F) (x .1 .term)) (walkOf F)
-  terms = subst (λ (T : Table). All (λ (x : CfgPoint × BlockLifting). TermOk T (x .1 .term)) T) walk-is
+  walked : All (λ (x : CfgPoint × BlockLifting). TermLeads (walkOf F) (x .1 .term) × (LetOff F (x .0) ⊎ TermOk (walkOf F) (x .1 .term))) (walkOf F)
+  walked = subst (λ (T : Table). All (λ (x : CfgPoint × BlockLifting). TermLeads T (x .1 .term) × (LetOff F (x .0) ⊎ TermOk T (x .1 .term))) T) walk-is
       (walk-terms F depth tree (roots F) in-order (ok .targets) (ok .fitting) (roots-visited F (ok .targets)))
+
+  -- every way out leads to visited points
+  pub leads : All (λ (x : CfgPoint × BlockLifting). TermLeads (walkOf F) (x .1 .term)) (walkOf F)
+  leads = all-left _ _ (walkOf F) walked
+
+  -- and takes as many values there as the point has phis, but for a case that ends in an exit
+  pub terms : All (λ (x : CfgPoint × BlockLifting). LetOff F (x .0) ⊎ TermOk (walkOf F) (x .1 .term)) (walkOf F)
+  terms = all-right _ _ (walkOf F) walked
+
+  -- what leads to a point that no run comes to
+  pub behind : All (Behind F) (walkOf F)
+  behind = subst (All (Behind F)) walk-is (walk-behind F (ok .forest .child-once) depth (roots F) (roots-visited F (ok .targets)))

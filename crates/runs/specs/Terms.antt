@@ -1,28 +1,41 @@
 -- Every terminator of the walk is as the emitter needs it, and stays so through absorption.
 use mathlib.Core.Path.{_≡_, refl, sym, ap, _∙_, subst}
-use mathlib.Core.Logic.{inl, inr}
+use mathlib.Core.Logic.{_⊎_, inl, inr}
 use mathlib.Core.Bool.{Bool, true, false}
 use mathlib.Core.List.{List, [], _∷_, map}
 use mathlib.Core.Option.{Option, none, some}
-use Prim.Native.Nat.{ℕ, zero, suc}
+use Prim.Native.Nat.{ℕ, suc}
 use native.Mathlib.Omega.{arith}
 use lib.ListN.{length, length-map}
 use Rattle.lifting.specs.Lists.{choose-no, choose-yes, find, keys}
 use Rattle.lifting.specs.Ast.{ControlInst, Func, Node, Value, block, exit, loop, select, selectBranch}
 use Rattle.lifting.specs.Parts.{childrenOf, ctrlOf, nodeOf, regionOf, valsOr}
 use Rattle.lifting.specs.Points.{BlockLifting, CfgPoint, Table, Terminator, eqPoint, nodeEntry, nodeExit, nothingHere, regionEntry, regionExit, straight}
-use Rattle.lifting.specs.Walk.{Place, always, childTerm, entryBlock, exitBlock, exitTerm, inBlock, inNode, loopTerm, nextPoint, outBlock, rootTerm, someVals, top, walkKids, walkNode, walkNodes, walkRegion, walkRoots}
-use Rattle.runs.specs.Members.{All, In, all-append, here, in-cases, in-nil, length-tabulate, map-in, there}
-use Rattle.runs.specs.Accepted.{Fitting, FreeKind, Targets, WayFit}
-use Rattle.runs.specs.Places.{Suffix, Visited, by-ctrl, in-case, in-loop, next, whole}
+use Rattle.lifting.specs.Walk.{Place, always, childTerm, entryBlock, exitBlock, exitTerm, inBlock, inNode, loopTerm, nextPoint, outBlock, rootTerm, someVals, top, walkRoots}
+use Rattle.runs.specs.Members.{All, In, here, in-cases, in-nil, length-tabulate, map-in}
+use Rattle.runs.specs.Accepted.{Fitting, FreeKind, OutsFit, Targets, WayFit}
+use Rattle.runs.specs.Places.{Suffix, Visited, at-body, by-ctrl, in-case, in-loop, next, whole}
+use Rattle.runs.specs.Visits.{every-visited}
+use Rattle.runs.specs.Ended.{LetOff, isSelect}
 use Rattle.runs.specs.Structure.{find-entry}
 use Rattle.runs.specs.Tour.{Tree, find-unique}
 use Rattle.runs.specs.TourLaid.{Roots, covers, here-entry, here-exit, here-in, here-out, unique}
 
-pub record TermOk (T : Table) (t : Terminator) : Type 0 where
+-- A way out: its targets stand in the table, each with so many values of this way out and phis of its own that Q holds.
+pub record TermTo (Q : ℕ → ℕ → Type 0) (T : Table) (t : Terminator) : Type 0 where
   pub free : FreeKind (t .kind)
   pub way : WayFit (t .kind) (length (t .targets))
-  pub to : (q : CfgPoint) → In q (t .targets) → (b : BlockLifting) × (find eqPoint q T ≡ some b) × (length (b .keys) ≡ length (valsOr (find eqPoint q (t .vals)) (b .defaults)))
+  pub to : (q : CfgPoint) → In q (t .targets) → (b : BlockLifting) × (find eqPoint q T ≡ some b) × Q (length (b .keys)) (length (valsOr (find eqPoint q (t .vals)) (b .defaults)))
+
+-- whatever the counts; and with as many values as phis
+abbrev pub TermLeads : Table → Terminator → Type 0
+TermLeads = TermTo (λ n m. Unit {0})
+
+abbrev pub TermOk : Table → Terminator → Type 0
+TermOk = TermTo (λ n m. n ≡ m)
+
+pub ok-leads : {T : Table} {t : Terminator} → TermOk T t → TermLeads T t
+ok-leads h = record { free = h .free; way = h .way; to = λ q i. let w = h .to q i in (w .0, w .1, tt) }
 
 pub nothing-ok : (T : Table) → TermOk T nothingHere
 nothing-ok T = record { free = tt; way = refl; to = λ q i. absurd (in-nil i) }
@@ -64,6 +77,13 @@ module _ (F : Func) (depth : ℕ) (tr : Tree F depth) (rs : List ℕ) (ok : Root
   next-ok r p [] v sf = straight-ok T (regionExit r) (exitBlock F r p) (exit-found r p v) refl
   next-ok r p (n ∷ ns) v sf = straight-ok T (nodeEntry n) (inBlock F (nodeOf F n) n) (in-found r n p ns v sf) (in-fills n (nodeOf F n) refl)
 
+  -- the way out of a point: it leads on, with enough values but for a case that ends in an exit
+  abbrev TermFine : CfgPoint → Terminator → Type 0
+  TermFine p t = TermLeads T t × (LetOff F p ⊎ TermOk T t)
+
+  whole-fine : (p : CfgPoint) {t : Terminator} → TermOk T t → TermFine p t
+  whole-fine p h = (ok-leads h, inr h)
+
   -- the way out of a child region
   one-target : (q : CfgPoint) (b : BlockLifting) (vs : List Value) → find eqPoint q T ≡ some b → length (b .keys) ≡ length vs → (vs ≡ [] → length (b .defaults) ≡ 0)
       → (p : CfgPoint) → p ≡ q → (c : BlockLifting) × (find eqPoint p T ≡ some c) × (length (c .keys) ≡ length (valsOr (find eqPoint p (someVals q vs)) (c .defaults)))
@@ -74,21 +94,37 @@ module _ (F : Func) (depth : ℕ) (tr : Tree F depth) (rs : List ℕ) (ok : Root
     e ∙ ap (λ (o : Option (List Value)). length (valsOr o (b .defaults))) (sym (choose-yes (eqPoint p q) (some (v ∷ vs)) none z)),
   )
 
-  child-ok : (r n c : ℕ) (p : Place) (ns : List ℕ) (d : Node) → nodeOf F n ≡ d → In c (childrenOf d) → Visited F r p → Suffix (regionOf F r .nodes) (n ∷ ns) → TermOk T (childTerm F d n (regionOf F c .outs))
+  child-ok : (r n c : ℕ) (p : Place) (ns : List ℕ) (d : Node) → nodeOf F n ≡ d → In c (childrenOf d) → Visited F r p → Suffix (regionOf F r .nodes) (n ∷ ns) → TermFine (regionExit c) (childTerm F d n (regionOf F c .outs))
   child-ok r n c p ns (block is) e i v sf = absurd (in-nil i)
   child-ok r n c p ns (exit j ws) e i v sf = absurd (in-nil i)
-  child-ok r n c p ns (select kd w cs ds) e i v sf = record {
-    free = tt;
-    way = refl;
-    to = λ q h. elim (in-cases h) [
-      | inl z ↦ one-target (nodeExit n) (outBlock F (select kd w cs ds) n (nextPoint r ns)) (regionOf F c .outs) (out-found r n p ns v sf ∙ ap (λ (d : Node). some (outBlock F d n (nextPoint r ns))) e)
-          (length-tabulate _ 0 (length ds) ∙ sym (fit .case-outs n c e i)) (λ x. refl) q z
-      | inr z ↦ absurd (in-nil z)
-    ];
-  }
+  child-ok r n c p ns (select kd w cs ds) e i v sf = by-outs (fit .case-outs n c e i)
+    where
+      fo : find eqPoint (nodeExit n) T ≡ some (outBlock F (select kd w cs ds) n (nextPoint r ns))
+      fo = out-found r n p ns v sf ∙ ap (λ (d : Node). some (outBlock F d n (nextPoint r ns))) e
+
+      by-outs : OutsFit F c (length ds) → TermFine (regionExit c) (childTerm F (select kd w cs ds) n (regionOf F c .outs))
+      by-outs (inl h) = whole-fine (regionExit c) (record {
+        free = tt;
+        way = refl;
+        to = λ q g. elim (in-cases g) [
+          | inl z ↦ one-target (nodeExit n) (outBlock F (select kd w cs ds) n (nextPoint r ns)) (regionOf F c .outs) fo (length-tabulate _ 0 (length ds) ∙ sym h) (λ x. refl) q z
+          | inr z ↦ absurd (in-nil z)
+        ];
+      })
+      by-outs (inr h) = (
+        record {
+          free = tt;
+          way = refl;
+          to = λ q g. elim (in-cases g) [
+            | inl z ↦ (outBlock F (select kd w cs ds) n (nextPoint r ns), subst (λ (x : CfgPoint). find eqPoint x T ≡ some (outBlock F (select kd w cs ds) n (nextPoint r ns))) (sym z) fo, tt)
+            | inr z ↦ absurd (in-nil z)
+          ];
+        },
+        inl (record { node = n; stands = in-case v sf e i; in-select = ap isSelect e; child = subst (λ (d : Node). In c (childrenOf d)) (sym e) i; ends = h .1 }),
+      )
   child-ok r n c p ns (loop b k is) e i v sf =
       let cb : c ≡ b = elim (in-cases i) [ inl z ↦ z | inr z ↦ absurd (in-nil z) ] in
-      subst (λ (x : ℕ). TermOk T (loopTerm F (always F k) n k (regionOf F x .outs))) (sym cb) (by-test (always F k))
+      whole-fine (regionExit c) (subst (λ (x : ℕ). TermOk T (loopTerm F (always F k) n k (regionOf F x .outs))) (sym cb) (by-test (always F k)))
     where
       outs : List Value
       outs = regionOf F b .outs
@@ -164,54 +200,13 @@ module _ (F : Func) (depth : ℕ) (tr : Tree F depth) (rs : List ℕ) (ok : Root
   }
   in-ok r n p ns (exit i vs) e v sf = record { free = fit .exit-free n e; way = refl; to = λ q j. absurd (in-nil j) }
 
-  abbrev Fine : CfgPoint × BlockLifting → Type 0
-  Fine x = TermOk T (x .1 .term)
-
-  -- where a region stands
-  data Stands : ℕ → Place → Type 0 where
-    stands-top : {r : ℕ} → Visited F r top → Stands r top
-    stands-in : {r n c : ℕ} {p : Place} {ns : List ℕ} → Visited F r p → Suffix (regionOf F r .nodes) (n ∷ ns) → In c (childrenOf (nodeOf F n)) → Visited F c (inNode n) → Stands c (inNode n)
-
-  exit-ok : (r : ℕ) (p : Place) → Stands r p → TermOk T (exitTerm F r p)
-  exit-ok r p (stands-top v) = root-ok r v (ctrlOf F r) refl
-  exit-ok r p (stands-in {r = s} {n} {p = q} {ns} v sf i w) = child-ok s n r q ns (nodeOf F n) refl i v sf
-
-  visited-of : {r : ℕ} {p : Place} → Stands r p → Visited F r p
-  visited-of (stands-top v) = v
-  visited-of (stands-in v sf i w) = w
-
-  kid-visited : (r n c : ℕ) (p : Place) (ns : List ℕ) (d : Node) → nodeOf F n ≡ d → In c (childrenOf d) → Visited F r p → Suffix (regionOf F r .nodes) (n ∷ ns) → Visited F c (inNode n)
-  kid-visited r n c p ns (block is) e i v sf = absurd (in-nil i)
-  kid-visited r n c p ns (select kd w cs ds) e i v sf = in-case v sf e i
-  kid-visited r n c p ns (loop b k is) e i v sf = subst (λ (x : ℕ). Visited F x (inNode n)) (sym (elim (in-cases i) [ inl z ↦ z | inr z ↦ absurd (in-nil z) ])) (in-loop v sf e)
-  kid-visited r n c p ns (exit j ws) e i v sf = absurd (in-nil i)
-
-  module _ (w : ℕ → Place → Table) (ih : (c : ℕ) (q : Place) → Stands c q → All Fine (w c q)) where
-    fine-kids : (r n : ℕ) (p : Place) (ns : List ℕ) → Visited F r p → Suffix (regionOf F r .nodes) (n ∷ ns) → (cs : List ℕ) → ((c : ℕ) → In c cs → In c (childrenOf (nodeOf F n))) → All Fine (walkKids F w n cs)
-    fine-kids r n p ns v sf [] sub = tt
-    fine-kids r n p ns v sf (c ∷ cs) sub = all-append Fine (w c (inNode n)) _
-        (ih c (inNode n) (stands-in v sf (sub c here) (kid-visited r n c p ns (nodeOf F n) refl (sub c here) v sf))) (fine-kids r n p ns v sf cs (λ b i. sub b (there i)))
-
-    fine-nodes : (r : ℕ) (p : Place) (ns : List ℕ) → Visited F r p → Suffix (regionOf F r .nodes) ns → All Fine (walkNodes F w r ns)
-    fine-nodes r p [] v sf = tt
-    fine-nodes r p (n ∷ ns) v sf = all-append Fine (walkNode F w n (nextPoint r ns)) _ (
-      in-ok r n p ns (nodeOf F n) refl v sf,
-      all-append Fine (walkKids F w n (childrenOf (nodeOf F n))) _ (fine-kids r n p ns v sf (childrenOf (nodeOf F n)) (λ c i. i)) (next-ok r p ns v (next sf), tt),
-    )
-        (fine-nodes r p ns v (next sf))
-
-  fine-region : (k r : ℕ) (p : Place) → Stands r p → All Fine (walkRegion F k r p)
-  fine-region zero r p st = tt
-  fine-region (suc k) r p st = (
-    next-ok r p (regionOf F r .nodes) (visited-of st) whole,
-    all-append Fine (walkNodes F (λ c x. walkRegion F k c x) r (regionOf F r .nodes)) _
-        (fine-nodes (λ c x. walkRegion F k c x) (λ c x s. fine-region k c x s) r p (regionOf F r .nodes) (visited-of st) whole) (exit-ok r p st, tt),
-  )
-
-  fine-roots : (l : List ℕ) → ((r : ℕ) → In r l → Visited F r top) → All Fine (walkRoots F depth l)
-  fine-roots [] h = tt
-  fine-roots (r ∷ l) h = all-append Fine (walkRegion F depth r top) _ (fine-region depth r top (stands-top (h r here))) (fine-roots l (λ s i. h s (there i)))
+  exit-ok : (r : ℕ) (p : Place) → Visited F r p → TermFine (regionExit r) (exitTerm F r p)
+  exit-ok r p at-body = whole-fine (regionExit 0) (root-ok 0 at-body (ctrlOf F 0) refl)
+  exit-ok r p (by-ctrl {s} v e i) = whole-fine (regionExit s) (root-ok s (by-ctrl v e i) (ctrlOf F s) refl)
+  exit-ok r p (in-case {r = s} {n} {c} {p = q} {ns} v sf e i) = child-ok s n c q ns (nodeOf F n) refl (subst (λ (d : Node). In c (childrenOf d)) (sym e) i) v sf
+  exit-ok r p (in-loop {r = s} {n} {b} {p = q} {ns} v sf e) = child-ok s n b q ns (nodeOf F n) refl (subst (λ (d : Node). In b (childrenOf d)) (sym e) here) v sf
 
   -- every terminator of the walk, where the roots are what a run can come to
-  pub walk-terms : ((r : ℕ) → In r rs → Visited F r top) → All (λ (x : CfgPoint × BlockLifting). TermOk T (x .1 .term)) T
-  walk-terms h = fine-roots rs h
+  pub walk-terms : ((r : ℕ) → In r rs → Visited F r top) → All (λ (x : CfgPoint × BlockLifting). TermLeads T (x .1 .term) × (LetOff F (x .0) ⊎ TermOk T (x .1 .term))) T
+  walk-terms = every-visited F (λ (x : CfgPoint × BlockLifting). TermFine (x .0) (x .1 .term)) (λ r p v. whole-fine (regionEntry r) (next-ok r p (regionOf F r .nodes) v whole)) exit-ok
+      (λ r n p ns v sf. whole-fine (nodeEntry n) (in-ok r n p ns (nodeOf F n) refl v sf)) (λ r n p ns v sf. whole-fine (nodeExit n) (next-ok r p ns v (next sf))) depth rs

@@ -1,4 +1,4 @@
--- The theorem at the witness: its two runs, which `lifting` computes in one world, are alike in every world. Assumes nothing.
+-- The theorem at two witnesses: their runs, which `lifting` computes in one world, are alike in every world. Assumes nothing.
 use mathlib.Core.Path.{_≡_, refl}
 use mathlib.Core.Bool.{true}
 use mathlib.Core.Option.{some}
@@ -11,6 +11,7 @@ use Rattle.lifting.specs.Words.{listFrom}
 use Rattle.lifting.specs.World.{World}
 use Rattle.lifting.specs.Runs.{AlikeRuns, TrueConstants}
 use Rattle.lifting.specs.Witness.{text, writtenWords, is-listed, function}
+use Rattle.lifting.specs.KilledCase
 use Rattle.runs.specs.Demand3.{demand-3}
 
 is-read : read text ≡ some function
@@ -30,3 +31,21 @@ no-41 W (suc (suc c)) e = absurd (omega arith)
 
 pub witness-alike : {Val : Type 0} (W : World Val) → AlikeRuns function (listFrom writtenWords) W
 witness-alike W = demand-3 text 10 scratchWords scratchWords scratchWords writtenWords 24 is-listed function is-read has-body W (no-41 W)
+
+-- and where a case ends in an exit
+killed-read : read KilledCase.text ≡ some KilledCase.function
+unfolding KilledCase.function
+killed-read = refl
+
+killed-body : hasBody (KilledCase.function .regions) ≡ true
+unfolding KilledCase.function
+killed-body = refl
+
+killed-no-41 : {Val : Type 0} (W : World Val) → TrueConstants KilledCase.function W
+unfolding KilledCase.function
+killed-no-41 W zero e = absurd (omega arith)
+killed-no-41 W (suc zero) e = absurd (omega arith)
+killed-no-41 W (suc (suc c)) e = absurd (omega arith)
+
+pub killed-alike : {Val : Type 0} (W : World Val) → AlikeRuns KilledCase.function (listFrom KilledCase.writtenWords) W
+killed-alike W = demand-3 KilledCase.text 10 scratchWords scratchWords scratchWords KilledCase.writtenWords 22 KilledCase.is-listed KilledCase.function killed-read killed-body W (killed-no-41 W)

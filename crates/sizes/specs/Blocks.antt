@@ -1,58 +1,67 @@
 -- The words of all kept blocks, as a sum over the visited points: any pass over kept blocks weighs at most what it weighs at each visited point.
 -- Assumes nothing.
-use mathlib.Core.Path.{_≡_, refl, ap, _∙_}
+use mathlib.Core.Path.{_≡_, refl, sym, ap, _∙_}
 use mathlib.Core.Bool.{Bool, true, false}
 use mathlib.Core.List.{List, [], _∷_, _++_, map}
-use Prim.Native.Nat.{ℕ, zero, suc, _+_, _*_, _≤_}
+use mathlib.Core.Option.{Option, none}
+use Prim.Native.Nat.{ℕ, zero, suc, _+_, _-_, _*_, _≤_, _<_}
 use native.Mathlib.Omega.{arith}
 use lib.ListN.{getD, length, length-append, length-map}
 use Rattle.opcodes.specs.Table.{opcodeOf}
 use Rattle.opcodes.specs.declared.InstKind.the-variants.{LoopMerge, SelectionMerge}
-use Rattle.lifting.specs.Lists.{gather}
-use Rattle.lifting.specs.Ast.{ControlInstKind, DataInstKind, Decl, Func, Imm, Value, boolCond, branch, call, const, exitInvocation, ext, inst, return, selectBranch, spvInst, unreachable}
-use Rattle.lifting.specs.Parts.{calleeIds, ctrlInsts, opInsts, opOf}
-use Rattle.lifting.specs.Points.{BlockLifting, CfgPoint, Merge, Table, Terminator, edgeOf, loopMerge, noMerge, selectionMerge}
-use Rattle.lifting.specs.Walk.{walkOf}
+use Rattle.lifting.specs.Lists.{find, gather}
+use Rattle.lifting.specs.Ast.{ControlInstKind, DataInstKind, Decl, Func, Imm, Node, Value, block, boolCond, branch, call, const, exit, exitInvocation, ext, inst, loop, return, select, selectBranch, spvInst, unreachable}
+use Rattle.lifting.specs.Parts.{calleeIds, ctrlInsts, nodeOf, opInsts, opOf, valsOr}
+use Rattle.lifting.specs.Points.{BlockLifting, CfgPoint, Merge, Table, Terminator, edgeOf, eqPoint, loopMerge, noMerge, selectionMerge}
+use Rattle.lifting.specs.Walk.{inBlock, walkOf}
 use Rattle.lifting.specs.Absorb.{countIn, kept, useCount}
 use Rattle.lifting.specs.Ids.{idOf, labelOf, phiKeys}
 use Rattle.lifting.specs.Instructions.{Instruction, bare, blockInsts, ifUsed, labelInst, loopControl, mergeInsts, opImms, opInst, pairs, phiInst, phiInsts, selectionControl, short, termImms, termInst}
 use Rattle.lifting.specs.Words.{immWords, instWords, words}
-use Rattle.runs.specs.Shaped.{Shaped}
+use Rattle.runs.specs.Members.{All, In, all-in}
+use Rattle.runs.specs.Pairs.{counted-in}
+use Rattle.runs.specs.Tour.{find-unique, unique-of}
+use Rattle.runs.specs.Terms.{TermOk}
+use Rattle.runs.specs.Shaped.{Shaped, walk-once}
+use Rattle.flat.specs.Chain.{chain-all, some-same}
+use Rattle.flat.specs.Steps.{Step, step-entry, step-exit, step-in, step-out, walk-steps}
 use Rattle.flat.specs.Gathered.{gather-none, gather-one, words-gather}
 use Rattle.flat.specs.Flat.{Pass, Status, glueAt, goes, gone, noPair, part, partAt, starts, statusAt, unlessGlued, upTo}
 use Rattle.flat.specs.ListFlat.{pairing, writing}
 use Rattle.flat.specs.Totals.{total, total-add}
 use Rattle.flat.specs.Laws
 use Rattle.sizes.specs.Sums.{length-gather, total-append, total-le, total-map, total-ones, total-scale, total-swap, total-upTo}
-use Rattle.sizes.specs.Weights.{blockWeight, edgeWeight, endWeight, flow, head, ifTo, imm, immTotal, mergeWeight, opWeight, opsWeight, sent}
+use Rattle.sizes.specs.Weights.{blockWeight, carried, defaultsAt, endWeight, flow, head, ifSome, imm, immTotal, initsOf, mergeWeight, opWeight, opsWeight, sent}
 
--- A pass over kept blocks, where each end weighs at most e.
-module _ {A : Type 0} (wt : A → ℕ) (m : Pass A) (e : Terminator → ℕ) (ends : (h : CfgPoint) (t : Terminator) → total wt (m .end h t) ≤ e t) where
+-- A pass over kept blocks, where each end weighs at most e if P holds of its way out.
+module _ {A : Type 0} (wt : A → ℕ) (m : Pass A) (P : Terminator → Type 0) (e : Terminator → ℕ) (ends : (h : CfgPoint) (t : Terminator) → P t → total wt (m .end h t) ≤ e t) where
   -- at a visited point
   abbrev pub partWeight : CfgPoint × BlockLifting → ℕ
   partWeight x = total wt (m .start (x .0) (x .1 .keys) (x .1 .decls)) + (total wt (gather (m .op) (x .1 .ops)) + e (x .1 .term))
 
   -- an end that may be absorbed, a part, and all parts
-  end-weight : (g : Bool) (h : CfgPoint) (t : Terminator) → total wt (unlessGlued m g (m .end h t)) ≤ e t
-  end-weight true h t = omega arith
-  end-weight false h t = ends h t
+  end-weight : (g : Bool) (h : CfgPoint) (t : Terminator) → P t → total wt (unlessGlued m g (m .end h t)) ≤ e t
+  end-weight true h t p = omega arith
+  end-weight false h t p = ends h t p
 
-  part-weight : (s : Status) (g : Bool) (x : CfgPoint × BlockLifting) → total wt (part m s g x) ≤ partWeight x
+  part-weight : (s : Status) (g : Bool) (x : CfgPoint × BlockLifting) → (¬ (s ≡ gone) → P (x .1 .term)) → total wt (part m s g x) ≤ partWeight x
   unfolding part
-  part-weight gone g x = omega arith
-  part-weight starts g x = omega (
+  part-weight gone g x p = omega arith
+  part-weight starts g x p = omega (
     arith,
     total-append wt (m .start (x .0) (x .1 .keys) (x .1 .decls)) (gather (m .op) (x .1 .ops) ++ unlessGlued m g (m .end (x .0) (x .1 .term))),
     total-append wt (gather (m .op) (x .1 .ops)) (unlessGlued m g (m .end (x .0) (x .1 .term))),
-    end-weight g (x .0) (x .1 .term),
+    end-weight g (x .0) (x .1 .term) (p (λ e. let z : _≡_ {A = ℕ} 0 1 = cc in omega arith)),
   )
-  part-weight (goes h) g x = omega (arith, total-append wt (gather (m .op) (x .1 .ops)) (unlessGlued m g (m .end h (x .1 .term))), end-weight g h (x .1 .term))
+  part-weight (goes h) g x p =
+      omega (arith, total-append wt (gather (m .op) (x .1 .ops)) (unlessGlued m g (m .end h (x .1 .term))), end-weight g h (x .1 .term) (p (λ e. let z : _≡_ {A = ℕ} 0 1 = cc in omega arith)))
 
-  pub pass-weight : (c : CfgPoint → ℕ) (T : Table) → total wt (upTo (partAt c m T) (length T)) ≤ total partWeight T
+  -- P need hold only of the points that are not gone
+  pub pass-weight : (c : CfgPoint → ℕ) (T : Table) → ((i : ℕ) → i < length T → ¬ (statusAt c T i ≡ gone) → P (getD T i noPair .1 .term)) → total wt (upTo (partAt c m T) (length T)) ≤ total partWeight T
   unfolding partAt
-  pass-weight c T = omega (
+  pass-weight c T p = omega (
     arith,
-    total-upTo wt partWeight noPair (λ i. 0) T (partAt c m T) (λ i h. omega (arith, part-weight (statusAt c T i) (glueAt c T i) (getD T i noPair))),
+    total-upTo wt partWeight noPair (λ i. 0) T (partAt c m T) (λ i h. omega (arith, part-weight (statusAt c T i) (glueAt c T i) (getD T i noPair) (p i h))),
   )
 
 -- the words of immediates, of a list and of an instruction
@@ -92,54 +101,105 @@ module _ (F : Func) (ok : Shaped F) (first : ℕ) where
   abbrev K : Table
   K = kept (walkOf F)
 
-  -- n values into the block at q along each edge
-  abbrev edgesTo : CfgPoint → ℕ → ℕ
-  edgesTo q n = total (λ y. edgeWeight q n (y .1 .term)) T
+  -- what an edge without values gives to phis is known from the point
+  in-defaults : (d : Node) (n : ℕ) → inBlock F d n .defaults ≡ initsOf d
+  in-defaults (block is) n = refl
+  in-defaults (select k v cs ds) n = refl
+  in-defaults (loop b c is) n = refl
+  in-defaults (exit i vs) n = refl
 
-  -- the pairs of a phi: two words for each way out that leads there
-  pairs-weight : (q : CfgPoint) (j : ℕ) → length (pairs F first T K K q j) ≤ 2 * edgesTo q 1
-  pairs-weight q j = omega (
-    arith,
-    total-ones (pairs F first T K K q j),
-    ap (total one) (Laws.pairs-are F ok first q j),
-    pass-weight one (pairing F first T K q j) each ends (useCount T) T,
-    total-le (partWeight one (pairing F first T K q j) each ends) (λ y. 2 * edgeWeight q 1 (y .1 .term)) T (λ y i. omega (arith, ap (total one) (gather-none (y .1 .ops)))),
-    total-scale 2 (λ y. edgeWeight q 1 (y .1 .term)) T,
-  )
-    where
-      one : ℕ → ℕ
-      one n = 1
+  step-defaults : (x : CfgPoint × BlockLifting) (o : Option CfgPoint) → Step F x o → x .1 .defaults ≡ defaultsAt F (x .0)
+  step-defaults x o (step-entry v) = refl
+  step-defaults x o (step-in {n} v sf h) = in-defaults (nodeOf F n) n
+  step-defaults x o (step-out v sf) = refl
+  step-defaults x o (step-exit v a) = refl
 
-      each : Terminator → ℕ
-      each t = 2 * edgeWeight q 1 t
+  defaults-at : All (λ x. x .1 .defaults ≡ defaultsAt F (x .0)) T
+  defaults-at = chain-all (Step F) _ step-defaults T none (walk-steps F ok)
 
-      by-count : (h : CfgPoint) (t : Terminator) (n : ℕ) → total one (ifUsed n (idOf F first T K (getD (edgeOf K t q) j (const 0)) ∷ labelOf F first T K h ∷ [])) ≤ 2 * ifTo n 1
-      by-count h t zero = omega arith
-      by-count h t (suc n) = omega arith
+  -- the values that the way out of y sends to q
+  abbrev sentTo : CfgPoint → CfgPoint × BlockLifting → ℕ
+  sentTo q y = carried F (y .1 .term) q
 
-      ends : (h : CfgPoint) (t : Terminator) → total one (pairing F first T K q j .end h t) ≤ each t
-      ends h t = by-count h t (countIn q (t .targets))
+  module _ (x : CfgPoint × BlockLifting) (here : In x T) where
+    abbrev q : CfgPoint
+    q = x .0
 
-  -- the phis of a block, and its start
-  phis-weight : (q : CfgPoint) (ks : List Value) (ds : List Decl) (j : ℕ) → total instWeight (phiInsts F first T K q ks ds j) ≤ head * length ks + 2 * edgesTo q (length ks)
-  unfolding phiInsts phiInst
-  phis-weight q [] ds j = omega arith
-  phis-weight q (k ∷ ks) ds j = omega (
-    arith,
-    length-inst (phiInst F first T K q k (getD ds j (record { attrs = 0; type = 0 })) j),
-    pairs-weight q j,
-    phis-weight q ks ds (suc j),
-    total-add (λ y. edgeWeight q 1 (y .1 .term)) (λ y. edgeWeight q (length ks) (y .1 .term)) T,
-    total-le (λ y. edgeWeight q 1 (y .1 .term) + edgeWeight q (length ks) (y .1 .term)) (λ y. edgeWeight q (suc (length ks)) (y .1 .term)) T (λ y i. one-more (countIn q (y .1 .term .targets)) (length ks)),
-  )
-    where
-      one-more : (c n : ℕ) → ifTo c 1 + ifTo c n ≤ ifTo c (suc n)
-      one-more zero n = omega arith
-      one-more (suc c) n = omega arith
+    -- a way out that leads here with enough values sends one to each phi
+    enough : (t : Terminator) → TermOk T t → 0 < countIn q (t .targets) → length (x .1 .keys) ≡ length (valsOr (find eqPoint q (t .vals)) (defaultsAt F q))
+    enough t tk l =
+        let w = tk .to q (counted-in q (t .targets) l) in
+        let b : x .1 ≡ w .0 = some-same (sym (w .1) ∙ find-unique T (unique-of T (walk-once F ok)) q (x .1) here) in
+        omega (
+          arith,
+          ap (λ (b : BlockLifting). length (b .keys)) b,
+          w .2,
+          ap (λ (b : BlockLifting). length (valsOr (find eqPoint q (t .vals)) (b .defaults))) b,
+          ap (λ (l : List Value). length (valsOr (find eqPoint q (t .vals)) l)) (all-in _ T defaults-at x here),
+        )
 
-  start-weight : (q : CfgPoint) (ks : List Value) (ds : List Decl) → total instWeight (writing F first T K .start q ks ds) ≤ head + (head * length ks + 2 * edgesTo q (length ks))
-  unfolding labelInst
-  start-weight q ks ds = omega (arith, length-inst (labelInst F first T K q), phis-weight q ks ds 0)
+    -- the pairs of phi j: two words for each way out that sends more than j values here
+    pairs-weight : (j : ℕ) → j < length (x .1 .keys) → length (pairs F first T K K q j) ≤ 2 * total (λ y. ifSome (sentTo q y - j) 1) T
+    pairs-weight j low = omega (
+      arith,
+      total-ones (pairs F first T K K q j),
+      ap (total one) (Laws.pairs-are F ok first q j),
+      pass-weight one (pairing F first T K q j) (TermOk T) each ends (useCount T) T (Laws.stands-fit F ok),
+      total-le (partWeight one (pairing F first T K q j) (TermOk T) each ends) (λ y. 2 * ifSome (sentTo q y - j) 1) T (λ y i. omega (arith, ap (total one) (gather-none (y .1 .ops)))),
+      total-scale 2 (λ y. ifSome (sentTo q y - j) 1) T,
+    )
+      where
+        one : ℕ → ℕ
+        one n = 1
+
+        each : Terminator → ℕ
+        each t = 2 * ifSome (carried F t q - j) 1
+
+        more : (n : ℕ) → j < n → 2 ≤ 2 * ifSome (n - j) 1
+        more n l = by-rest (n - j) refl
+          where
+            by-rest : (k : ℕ) → n - j ≡ k → 2 ≤ 2 * ifSome k 1
+            by-rest zero e = absurd (omega arith)
+            by-rest (suc k) e = omega arith
+
+        ends : (h : CfgPoint) (t : Terminator) → TermOk T t → total one (pairing F first T K q j .end h t) ≤ each t
+        ends h t tk = by-count (countIn q (t .targets)) refl
+          where
+            ws : List ℕ
+            ws = idOf F first T K (getD (edgeOf K t q) j (const 0)) ∷ labelOf F first T K h ∷ []
+
+            by-count : (n : ℕ) → countIn q (t .targets) ≡ n → total one (ifUsed n ws) ≤ 2 * ifSome (ifSome n (length (valsOr (find eqPoint q (t .vals)) (defaultsAt F q))) - j) 1
+            by-count zero e = omega arith
+            by-count (suc n) e = more (length (valsOr (find eqPoint q (t .vals)) (defaultsAt F q))) (omega (arith, enough t tk (omega arith)))
+
+    -- the phis of a block from number j on, and its start
+    phis-weight : (ks : List Value) (ds : List Decl) (j : ℕ) → j + length ks ≤ length (x .1 .keys) → total instWeight (phiInsts F first T K q ks ds j) ≤ head * length ks + 2 * total (λ y. sentTo q y - j) T
+    unfolding phiInsts phiInst
+    phis-weight [] ds j low = omega arith
+    phis-weight (k ∷ ks) ds j low = omega (
+      arith,
+      length-inst (phiInst F first T K q k (getD ds j (record { attrs = 0; type = 0 })) j),
+      pairs-weight j (omega arith),
+      phis-weight ks ds (suc j) (omega arith),
+      total-add (λ y. ifSome (sentTo q y - j) 1) (λ y. sentTo q y - suc j) T,
+      total-le (λ y. ifSome (sentTo q y - j) 1 + (sentTo q y - suc j)) (λ y. sentTo q y - j) T (λ y i. one-more (sentTo q y)),
+    )
+      where
+        one-more : (n : ℕ) → ifSome (n - j) 1 + (n - suc j) ≤ n - j
+        one-more n = by-rest (n - j) refl
+          where
+            by-rest : (k : ℕ) → n - j ≡ k → ifSome k 1 + (n - suc j) ≤ k
+            by-rest zero e = omega arith
+            by-rest (suc k) e = omega arith
+
+    start-weight : total instWeight (writing F first T K .start q (x .1 .keys) (x .1 .decls)) ≤ head + (head * length (x .1 .keys) + 2 * total (sentTo q) T)
+    unfolding labelInst
+    start-weight = omega (
+      arith,
+      length-inst (labelInst F first T K q),
+      phis-weight (x .1 .keys) (x .1 .decls) 0 (omega arith),
+      total-le (λ y. sentTo q y - 0) (sentTo q) T (λ y i. omega arith),
+    )
 
   -- ops
   op-weight : (i : ℕ) → instWeight (opInst F first T K i) ≤ opWeight (opOf F i)
@@ -167,9 +227,12 @@ module _ (F : Func) (ok : Shaped F) (first : ℕ) where
   merge-weight (selectionMerge a) = omega (arith, length-inst (bare (opcodeOf SelectionMerge) (short selectionControl 0) (labelOf F first T K a ∷ [])))
   merge-weight (loopMerge a b) = omega (arith, length-inst (bare (opcodeOf LoopMerge) (short loopControl 0) (labelOf F first T K a ∷ labelOf F first T K b ∷ [])))
 
-  way-weight : (h : CfgPoint) (t : Terminator) → total instWeight (writing F first T K .end h t) ≤ head + endWeight t
+  abbrev Any : Terminator → Type 0
+  Any t = Unit {0}
+
+  way-weight : (h : CfgPoint) (t : Terminator) → Any t → total instWeight (writing F first T K .end h t) ≤ head + endWeight t
   unfolding termInst
-  way-weight h t = omega (
+  way-weight h t any = omega (
     arith,
     total-append instWeight (mergeInsts F first T K (t .merge)) (termInst F first T K t ∷ []),
     merge-weight (t .merge),
@@ -185,22 +248,22 @@ module _ (F : Func) (ok : Shaped F) (first : ℕ) where
   phis x = length (x .1 .keys)
 
   abbrev taken : CfgPoint × BlockLifting → ℕ
-  taken x = edgesTo (x .0) (phis x)
+  taken x = total (sentTo (x .0)) T
 
   -- All kept blocks: their phis, and what each visited point writes and sends to phis. What all take is what all send.
   pub blocks-weight : total instWeight (blockInsts F first T K K) ≤ head * length (phiKeys T) + total (sent F) T
   blocks-weight = omega (
     arith,
     ap (total instWeight) (Laws.instructions-are F ok first),
-    pass-weight instWeight (writing F first T K) (λ t. head + endWeight t) way-weight (useCount T) T,
-    total-le (partWeight instWeight (writing F first T K) (λ t. head + endWeight t) way-weight) (λ x. blockWeight F (x .1) + (head * phis x + 2 * taken x)) T
-        (λ x i. omega (arith, start-weight (x .0) (x .1 .keys) (x .1 .decls), ops-weight (x .1 .ops))),
+    pass-weight instWeight (writing F first T K) Any (λ t. head + endWeight t) way-weight (useCount T) T (λ i h s. tt),
+    total-le (partWeight instWeight (writing F first T K) Any (λ t. head + endWeight t) way-weight) (λ x. blockWeight F (x .1) + (head * phis x + 2 * taken x)) T
+        (λ x i. omega (arith, start-weight x i, ops-weight (x .1 .ops))),
     total-add (λ x. blockWeight F (x .1)) (λ x. head * phis x + 2 * taken x) T,
     total-add (λ x. head * phis x) (λ x. 2 * taken x) T,
     total-scale head phis T,
     total-scale 2 taken T,
-    total-swap (λ x y. edgeWeight (x .0) (phis x) (y .1 .term)) T T,
-    total-add (λ x. blockWeight F (x .1)) (λ x. 2 * flow T (x .1 .term)) T,
-    total-scale 2 (λ x. flow T (x .1 .term)) T,
+    total-swap (λ x y. sentTo (x .0) y) T T,
+    total-add (λ x. blockWeight F (x .1)) (λ x. 2 * flow F (x .1 .term)) T,
+    total-scale 2 (λ x. flow F (x .1 .term)) T,
     length-gather (λ (x : CfgPoint × BlockLifting). x .1 .keys) T,
   )

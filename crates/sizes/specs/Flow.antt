@@ -14,17 +14,15 @@ use Rattle.lifting.specs.Parts.{childrenOf, ctrlOf, nodeOf, regionOf, valsOr}
 use Rattle.lifting.specs.Points.{BlockLifting, CfgPoint, Table, Terminator, eqPoint, nodeEntry, nodeExit, points, regionEntry, regionExit, straight}
 use Rattle.lifting.specs.Walk.{Place, always, childTerm, exitTerm, inBlock, inNode, loopTerm, nextPoint, rootTerm, someVals, top, walkOf}
 use Rattle.lifting.specs.Absorb.{countIn}
-use Rattle.runs.specs.Members.{All, In, all-in, here, in-cases, in-nil, map-in, there}
+use Rattle.runs.specs.Members.{In, here, in-cases, in-nil, map-in, there}
 use Rattle.runs.specs.Pairs.{counted-in}
 use Rattle.runs.specs.Places.{Visited}
-use Rattle.runs.specs.Tour.{find-unique, unique-of}
-use Rattle.runs.specs.Terms.{TermOk}
-use Rattle.runs.specs.Shaped.{Shaped, terms, walk-once}
-use Rattle.flat.specs.Chain.{Chain, chain-all, firstOf, some-same}
+use Rattle.runs.specs.Shaped.{Shaped, walk-once}
+use Rattle.flat.specs.Chain.{Chain, firstOf}
 use Rattle.flat.specs.Steps.{Step, placed, step-entry, step-exit, step-in, step-out, walk-steps}
 use Rattle.flat.specs.Totals.{total, total-once}
 use Rattle.sizes.specs.Sums.{total-find, total-keys, total-le, total-map, weighed}
-use Rattle.sizes.specs.Weights.{ctrlWeight, defaultsAt, edgeWeight, endWeight, flow, head, ifTo, initsOf, nodeWeight, opsWeight, pointWeight, sent, weightAt}
+use Rattle.sizes.specs.Weights.{carried, ctrlWeight, defaultsAt, endWeight, flow, head, ifSome, initsOf, nodeWeight, opsWeight, pointWeight, sent, weightAt}
 
 -- Sums along a chain: where f of each entry is at most g of it and a of the next point, all f are at most all g and all a.
 module _ (P : CfgPoint × BlockLifting → Option CfgPoint → Type 0) (f : CfgPoint × BlockLifting → ℕ) (g a : CfgPoint → ℕ) where
@@ -48,11 +46,11 @@ module _ (p q : CfgPoint) where
   elsewhere (v ∷ vs) ds m = ap (λ (o : Option (List Value)). valsOr o ds) (choose-no (eqPoint p q) (some (v ∷ vs)) none m)
 
 -- a weight that counts only where a way leads
-if-low : (c n m : ℕ) → n ≤ m → ifTo c n ≤ m
+if-low : (c n m : ℕ) → n ≤ m → ifSome c n ≤ m
 if-low zero n m h = omega arith
 if-low (suc c) n m h = h
 
-if-led : (c n m : ℕ) → (0 < c → n ≤ m) → ifTo c n ≤ m
+if-led : (c n m : ℕ) → (0 < c → n ≤ m) → ifSome c n ≤ m
 if-led zero n m h = omega arith
 if-led (suc c) n m h = h (omega arith)
 
@@ -60,94 +58,57 @@ module _ (F : Func) (ok : Shaped F) where
   abbrev T : Table
   T = walkOf F
 
-  -- what an edge without values gives to phis is known from the point
-  in-defaults : (d : Node) (n : ℕ) → inBlock F d n .defaults ≡ initsOf d
-  in-defaults (block is) n = refl
-  in-defaults (select k v cs ds) n = refl
-  in-defaults (loop b c is) n = refl
-  in-defaults (exit i vs) n = refl
-
-  step-defaults : (x : CfgPoint × BlockLifting) (o : Option CfgPoint) → Step F x o → x .1 .defaults ≡ defaultsAt F (x .0)
-  step-defaults x o (step-entry v) = refl
-  step-defaults x o (step-in {n} v sf h) = in-defaults (nodeOf F n) n
-  step-defaults x o (step-out v sf) = refl
-  step-defaults x o (step-exit v a) = refl
-
-  defaults-at : All (λ x. x .1 .defaults ≡ defaultsAt F (x .0)) T
-  defaults-at = chain-all (Step F) _ step-defaults T none (walk-steps F ok)
-
-  -- what a way out sends to p
-  abbrev carried : Terminator → CfgPoint → ℕ
-  carried t p = ifTo (countIn p (t .targets)) (length (valsOr (find eqPoint p (t .vals)) (defaultsAt F p)))
-
-  -- as many values as the target has phis
-  edge-carried : (t : Terminator) → TermOk T t → (x : CfgPoint × BlockLifting) → In x T → edgeWeight (x .0) (length (x .1 .keys)) t ≤ carried t (x .0)
-  edge-carried t tk x i = by-count (countIn (x .0) (t .targets)) refl
-    where
-      by-count : (c : ℕ) → countIn (x .0) (t .targets) ≡ c → ifTo c (length (x .1 .keys)) ≤ ifTo c (length (valsOr (find eqPoint (x .0) (t .vals)) (defaultsAt F (x .0))))
-      by-count zero e = omega arith
-      by-count (suc c) e =
-          let w = tk .to (x .0) (counted-in (x .0) (t .targets) (omega arith)) in
-          let b : x .1 ≡ w .0 = some-same (sym (w .1) ∙ find-unique T (unique-of T (walk-once F ok)) (x .0) (x .1) i) in
-          omega (
-            arith,
-            ap (λ (b : BlockLifting). length (b .keys)) b,
-            w .2,
-            ap (λ (b : BlockLifting). length (valsOr (find eqPoint (x .0) (t .vals)) (b .defaults))) b,
-            ap (λ (l : List Value). length (valsOr (find eqPoint (x .0) (t .vals)) l)) (all-in _ T defaults-at x i),
-          )
-
-  flow-carried : (t : Terminator) → TermOk T t → flow T t ≤ total (carried t) (points T)
-  flow-carried t tk = omega (arith, total-le (λ x. edgeWeight (x .0) (length (x .1 .keys)) t) (λ x. carried t (x .0)) T (edge-carried t tk), total-keys (carried t) T)
+  flow-points : (t : Terminator) → flow F t ≡ total (carried F t) (points T)
+  flow-points t = total-keys (carried F t) T
 
   -- a way out with values for q alone, where no other target takes any
-  sole : (t : Terminator) → TermOk T t → (q : CfgPoint) (vs : List Value) (n : ℕ) → t .vals ≡ someVals q vs → length vs ≤ n → length (defaultsAt F q) ≤ n
-      → ((p : CfgPoint) → In p (t .targets) → ¬ (p ≡ q) → defaultsAt F p ≡ []) → flow T t ≤ n
-  sole t tk q vs n e few fills others = omega (
+  sole : (t : Terminator) (q : CfgPoint) (vs : List Value) (n : ℕ) → t .vals ≡ someVals q vs → length vs ≤ n → length (defaultsAt F q) ≤ n
+      → ((p : CfgPoint) → In p (t .targets) → ¬ (p ≡ q) → defaultsAt F p ≡ []) → flow F t ≤ n
+  sole t q vs n e few fills others = omega (
     arith,
-    flow-carried t tk,
-    total-le (carried t) (λ p. choose (eqPoint p q) n 0) (points T) (λ p i. by-point p (eqPoint p q)),
+    flow-points t,
+    total-le (carried F t) (λ p. choose (eqPoint p q) n 0) (points T) (λ p i. by-point p (eqPoint p q)),
     total-once eqPoint q n (points T) (walk-once F ok),
   )
     where
-      by-point : (p : CfgPoint) (d : Dec (p ≡ q)) → carried t p ≤ choose d n 0
+      by-point : (p : CfgPoint) (d : Dec (p ≡ q)) → carried F t p ≤ choose d n 0
       by-point p (yes z) = if-low (countIn p (t .targets)) _ n (rw e (at-most p q vs (defaultsAt F p) n few (rw z fills)))
       by-point p (no m) = if-led (countIn p (t .targets)) _ 0 (λ c.
           let z : length (valsOr (find eqPoint p (t .vals)) (defaultsAt F p)) ≡ 0 = rw e (ap length (elsewhere p q vs (defaultsAt F p) m ∙ others p (counted-in p (t .targets) c) m)) in
           omega arith)
 
   -- a straight way
-  straight-flow : (q : CfgPoint) → TermOk T (straight q) → flow T (straight q) ≤ length (defaultsAt F q)
-  straight-flow q tk = sole (straight q) tk q [] (length (defaultsAt F q)) refl (omega arith) (omega arith) (λ p i m. elim (in-cases i) [ inl e ↦ absurd (m e) | inr z ↦ absurd (in-nil z) ])
+  straight-flow : (q : CfgPoint) → flow F (straight q) ≤ length (defaultsAt F q)
+  straight-flow q = sole (straight q) q [] (length (defaultsAt F q)) refl (omega arith) (omega arith) (λ p i m. elim (in-cases i) [ inl e ↦ absurd (m e) | inr z ↦ absurd (in-nil z) ])
 
   -- an edge to a region's entry has no values without an entry of its own
   entry-none : (rs : List ℕ) (p : CfgPoint) → In p (map regionEntry rs) → defaultsAt F p ≡ []
   entry-none rs p i = ap (defaultsAt F) (map-in regionEntry rs i .2)
 
   -- at a node's entry
-  in-weight : (d : Node) (n : ℕ) → TermOk T (inBlock F d n .term) → (opsWeight F (inBlock F d n .ops) + endWeight (inBlock F d n .term)) + 2 * flow T (inBlock F d n .term) ≤ nodeWeight F d
-  in-weight (block is) n tk = omega (arith, straight-flow (nodeExit n) tk)
-  in-weight (select k v cs ds) n tk = omega (
+  in-weight : (d : Node) (n : ℕ) → (opsWeight F (inBlock F d n .ops) + endWeight (inBlock F d n .term)) + 2 * flow F (inBlock F d n .term) ≤ nodeWeight F d
+  in-weight (block is) n = omega (arith, straight-flow (nodeExit n))
+  in-weight (select k v cs ds) n = omega (
     arith,
-    sole (inBlock F (select k v cs ds) n .term) tk (nodeExit n) [] 0 refl (omega arith) (omega arith) (λ p i m. entry-none cs p i),
+    sole (inBlock F (select k v cs ds) n .term) (nodeExit n) [] 0 refl (omega arith) (omega arith) (λ p i m. entry-none cs p i),
     length-map cs regionEntry,
   )
-  in-weight (loop b c is) n tk = omega (arith, sole (inBlock F (loop b c is) n .term) tk (nodeExit n) [] 0 refl (omega arith) (omega arith) (λ p i m. entry-none (b ∷ []) p i))
-  in-weight (exit j vs) n tk = omega (arith, sole (inBlock F (exit j vs) n .term) tk (nodeExit n) [] 0 refl (omega arith) (omega arith) (λ p i m. absurd (in-nil i)))
+  in-weight (loop b c is) n = omega (arith, sole (inBlock F (loop b c is) n .term) (nodeExit n) [] 0 refl (omega arith) (omega arith) (λ p i m. entry-none (b ∷ []) p i))
+  in-weight (exit j vs) n = omega (arith, sole (inBlock F (exit j vs) n .term) (nodeExit n) [] 0 refl (omega arith) (omega arith) (λ p i m. absurd (in-nil i)))
 
   -- at a root's exit
   no-defaults : (o : Option (List Value)) (ds : List Value) → ds ≡ [] → length (valsOr o ds) ≤ weighed length o
   no-defaults none ds e = omega (arith, ap length e)
   no-defaults (some vs) ds e = omega arith
 
-  root-weight : (o : Option ControlInst) (r : ℕ) → TermOk T (rootTerm F o r) → endWeight (rootTerm F o r) + 2 * flow T (rootTerm F o r) ≤ 2 * length (regionOf F r .outs) + weighed ctrlWeight o
-  root-weight none r tk = omega (arith, sole (rootTerm F none r) tk (nodeExit r) [] 0 refl (omega arith) (omega arith) (λ p i m. absurd (in-nil i)))
-  root-weight (some c) r tk =
+  root-weight : (o : Option ControlInst) (r : ℕ) → endWeight (rootTerm F o r) + 2 * flow F (rootTerm F o r) ≤ 2 * length (regionOf F r .outs) + weighed ctrlWeight o
+  root-weight none r = omega (arith, sole (rootTerm F none r) (nodeExit r) [] 0 refl (omega arith) (omega arith) (λ p i m. absurd (in-nil i)))
+  root-weight (some c) r =
       let t : Terminator = rootTerm F (some c) r in
       omega (
         arith,
-        flow-carried t tk,
-        total-le (carried t) (λ p. weighed length (find eqPoint p (t .vals))) (points T)
+        flow-points t,
+        total-le (carried F t) (λ p. weighed length (find eqPoint p (t .vals))) (points T)
             (λ p i. if-led (countIn p (t .targets)) _ _ (λ h. no-defaults (find eqPoint p (t .vals)) (defaultsAt F p) (entry-none (c .to) p (counted-in p (t .targets) h)))),
         total-find eqPoint length (points T) (walk-once F ok) (t .vals),
         total-map (λ (e : CfgPoint × List Value). length (e .1)) (λ (e : ℕ × List Value). (regionEntry (e .0), e .1)) (c .vals),
@@ -155,18 +116,18 @@ module _ (F : Func) (ok : Shaped F) where
       )
 
   -- at the exit of a case or of a loop's body
-  child-weight : (r n : ℕ) (d : Node) → nodeOf F n ≡ d → In r (childrenOf d) → TermOk T (childTerm F d n (regionOf F r .outs))
-      → endWeight (childTerm F d n (regionOf F r .outs)) + 2 * flow T (childTerm F d n (regionOf F r .outs)) ≤ 3 + 2 * length (regionOf F r .outs)
-  child-weight r n (block is) e i tk = absurd (in-nil i)
-  child-weight r n (exit j vs) e i tk = absurd (in-nil i)
-  child-weight r n (select k v cs ds) e i tk =
+  child-weight : (r n : ℕ) (d : Node) → nodeOf F n ≡ d → In r (childrenOf d)
+      → endWeight (childTerm F d n (regionOf F r .outs)) + 2 * flow F (childTerm F d n (regionOf F r .outs)) ≤ 3 + 2 * length (regionOf F r .outs)
+  child-weight r n (block is) e i = absurd (in-nil i)
+  child-weight r n (exit j vs) e i = absurd (in-nil i)
+  child-weight r n (select k v cs ds) e i =
       let vs : List Value = regionOf F r .outs in
       omega (
         arith,
-        sole (childTerm F (select k v cs ds) n vs) tk (nodeExit n) vs (length vs) refl (omega arith) (omega arith)
+        sole (childTerm F (select k v cs ds) n vs) (nodeExit n) vs (length vs) refl (omega arith) (omega arith)
             (λ p h m. elim (in-cases h) [ inl z ↦ absurd (m z) | inr z ↦ absurd (in-nil z) ]),
       )
-  child-weight r n (loop b c is) e i tk = by-test (always F c) tk
+  child-weight r n (loop b c is) e i = by-test (always F c)
     where
       outs : List Value
       outs = regionOf F r .outs
@@ -177,35 +138,35 @@ module _ (F : Func) (ok : Shaped F) where
       fills : length (initsOf (nodeOf F n)) ≡ length (regionOf F r .outs)
       fills = ap (λ (d : Node). length (initsOf d)) e ∙ ok .fitting .loop-ins n e ∙ sym (ok .fitting .loop-outs n e) ∙ ap (λ (s : ℕ). length (regionOf F s .outs)) (sym body)
 
-      by-test : (a : Bool) → TermOk T (loopTerm F a n c outs) → endWeight (loopTerm F a n c outs) + 2 * flow T (loopTerm F a n c outs) ≤ 3 + 2 * length outs
-      by-test true tk = omega (
+      by-test : (a : Bool) → endWeight (loopTerm F a n c outs) + 2 * flow F (loopTerm F a n c outs) ≤ 3 + 2 * length outs
+      by-test true = omega (
         arith,
-        sole (loopTerm F true n c outs) tk (nodeEntry n) outs (length outs) refl (omega arith) (omega (arith, fills))
+        sole (loopTerm F true n c outs) (nodeEntry n) outs (length outs) refl (omega arith) (omega (arith, fills))
             (λ p h m. elim (in-cases h) [ inl z ↦ absurd (m z) | inr z ↦ absurd (in-nil z) ]),
       )
-      by-test false tk = omega (
+      by-test false = omega (
         arith,
-        sole (loopTerm F false n c outs) tk (nodeEntry n) outs (length outs) refl (omega arith) (omega (arith, fills))
+        sole (loopTerm F false n c outs) (nodeEntry n) outs (length outs) refl (omega arith) (omega (arith, fills))
             (λ p h m. elim (in-cases h) [ inl z ↦ absurd (m z) | inr y ↦ elim (in-cases y) [ inl z ↦ ap (defaultsAt F) z | inr z ↦ absurd (in-nil z) ] ]),
       )
 
   -- at any region's exit
-  exit-weight : (r : ℕ) (p : Place) → Visited F r p → TermOk T (exitTerm F r p) → endWeight (exitTerm F r p) + 2 * flow T (exitTerm F r p) ≤ weightAt F (regionExit r)
-  exit-weight r top v tk = omega (arith, root-weight (ctrlOf F r) r tk)
-  exit-weight r (inNode n) v tk = omega (arith, child-weight r n (nodeOf F n) refl (placed F (ok .targets) v) tk)
+  exit-weight : (r : ℕ) (p : Place) → Visited F r p → endWeight (exitTerm F r p) + 2 * flow F (exitTerm F r p) ≤ weightAt F (regionExit r)
+  exit-weight r top v = omega (arith, root-weight (ctrlOf F r) r)
+  exit-weight r (inNode n) v = omega (arith, child-weight r n (nodeOf F n) refl (placed F (ok .targets) v))
 
   -- at each visited point, with what it sends to the next one
-  step-weight : (x : CfgPoint × BlockLifting) (o : Option CfgPoint) → Step F x o → TermOk T (x .1 .term) → sent F x ≤ ((head + head) + weightAt F (x .0)) + weighed (λ p. 2 * length (defaultsAt F p)) o
-  step-weight x o (step-entry {r} v) tk = omega (arith, straight-flow (nextPoint r (regionOf F r .nodes)) tk)
-  step-weight x o (step-in {n} v sf h) tk = omega (arith, in-weight (nodeOf F n) n tk)
-  step-weight x o (step-out {r} {ns} v sf) tk = omega (arith, straight-flow (nextPoint r ns) tk)
-  step-weight x o (step-exit {r} {p} v a) tk = omega (arith, exit-weight r p v tk)
+  step-weight : (x : CfgPoint × BlockLifting) (o : Option CfgPoint) → Step F x o → sent F x ≤ ((head + head) + weightAt F (x .0)) + weighed (λ p. 2 * length (defaultsAt F p)) o
+  step-weight x o (step-entry {r} v) = omega (arith, straight-flow (nextPoint r (regionOf F r .nodes)))
+  step-weight x o (step-in {n} v sf h) = omega (arith, in-weight (nodeOf F n) n)
+  step-weight x o (step-out {r} {ns} v sf) = omega (arith, straight-flow (nextPoint r ns))
+  step-weight x o (step-exit {r} {p} v a) = omega (arith, exit-weight r p v)
 
   -- all visited points
   pub points-weight : total (sent F) T ≤ total (pointWeight F) (points T)
   points-weight = omega (
     arith,
     chain-total (Step F) (sent F) (λ p. (head + head) + weightAt F p) (λ p. 2 * length (defaultsAt F p)) T none
-        (λ x o i s. step-weight x o s (all-in (λ y. TermOk T (y .1 .term)) T (terms F ok) x i)) (walk-steps F ok),
+        (λ x o i s. step-weight x o s) (walk-steps F ok),
     total-keys (pointWeight F) T,
   )

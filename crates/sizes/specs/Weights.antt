@@ -2,10 +2,11 @@
 use mathlib.Core.List.{List, [], _∷_}
 use Prim.Native.Nat.{ℕ, zero, suc, _+_, _*_}
 use lib.ListN.{length}
+use Rattle.lifting.specs.Lists.{find}
 use Rattle.lifting.specs.Ast.{ControlInst, Func, Inst, Node, Op, Value, block, exit, loop, select}
-use Rattle.lifting.specs.Parts.{blockOps, childrenOf, ctrlInsts, ctrlOf, immediates, nodeInsts, nodeOf, opInsts, opOf, regionOf, targets, values}
+use Rattle.lifting.specs.Parts.{blockOps, childrenOf, ctrlInsts, ctrlOf, immediates, nodeInsts, nodeOf, opInsts, opOf, regionOf, targets, values, valsOr}
 use Rattle.lifting.specs.Limits.{maxDecls, maxImmediates, maxNodes, maxOps, maxParams, maxRegions, maxTargets, maxValues}
-use Rattle.lifting.specs.Points.{BlockLifting, CfgPoint, Merge, Table, Terminator, loopMerge, noMerge, nodeEntry, nodeExit, regionEntry, regionExit, selectionMerge}
+use Rattle.lifting.specs.Points.{BlockLifting, CfgPoint, Merge, Terminator, eqPoint, loopMerge, noMerge, nodeEntry, nodeExit, regionEntry, regionExit, selectionMerge}
 use Rattle.lifting.specs.Walk.{walkOf}
 use Rattle.lifting.specs.Absorb.{countIn}
 use Rattle.flat.specs.Totals.{total}
@@ -57,17 +58,10 @@ mergeWeight (loopMerge a b) = head + imm + 2
 abbrev pub endWeight : Terminator → ℕ
 endWeight t = mergeWeight (t .merge) + (imm * immTotal (ctrlInsts (t .kind)) + (length (t .ins) + length (t .targets)))
 
--- n values for the phis of the block at q, if the way out t leads there
-abbrev pub ifTo : ℕ → ℕ → ℕ
-ifTo zero n = 0
-ifTo (suc k) n = n
-
-abbrev pub edgeWeight : CfgPoint → ℕ → Terminator → ℕ
-edgeWeight q n t = ifTo (countIn q (t .targets)) n
-
--- what moves along all edges of a way out
-abbrev pub flow : Table → Terminator → ℕ
-flow T t = total (λ x. edgeWeight (x .0) (length (x .1 .keys)) t) T
+-- a weight that counts only where something is
+abbrev pub ifSome : ℕ → ℕ → ℕ
+ifSome zero n = 0
+ifSome (suc k) n = n
 
 -- a ctrl line: its values move along edges or are inputs
 abbrev pub movedBy : ControlInst → ℕ
@@ -102,22 +96,30 @@ module _ (F : Func) where
   abbrev pub blockWeight : BlockLifting → ℕ
   blockWeight b = (head + head) + (opsWeight (b .ops) + endWeight (b .term))
 
-  abbrev pub sent : CfgPoint × BlockLifting → ℕ
-  sent x = blockWeight (x .1) + 2 * flow (walkOf F) (x .1 .term)
-
-  -- The same by what the text has for the point: but for the heads of its label and its way out, and for the inits of a loop, which the point
-  -- before it sends; those inits; and all of it.
-  abbrev pub weightAt : CfgPoint → ℕ
-  weightAt (regionEntry r) = 1
-  weightAt (regionExit r) = 3 + (2 * length (regionOf F r .outs) + weighed ctrlWeight (ctrlOf F r))
-  weightAt (nodeEntry n) = nodeWeight (nodeOf F n)
-  weightAt (nodeExit n) = 1
-
+  -- the inits of a loop, which an edge without values gives to its phis
   abbrev pub defaultsAt : CfgPoint → List Value
   defaultsAt (regionEntry r) = []
   defaultsAt (regionExit r) = []
   defaultsAt (nodeEntry n) = initsOf (nodeOf F n)
   defaultsAt (nodeExit n) = []
+
+  -- the values that a way out sends to p, if it leads there; and all that it sends
+  abbrev pub carried : Terminator → CfgPoint → ℕ
+  carried t p = ifSome (countIn p (t .targets)) (length (valsOr (find eqPoint p (t .vals)) (defaultsAt p)))
+
+  abbrev pub flow : Terminator → ℕ
+  flow t = total (λ x. carried t (x .0)) (walkOf F)
+
+  abbrev pub sent : CfgPoint × BlockLifting → ℕ
+  sent x = blockWeight (x .1) + 2 * flow (x .1 .term)
+
+  -- The same by what the text has for the point: but for the heads of its label and its way out, and for the inits of a loop, which the point
+  -- before it sends; and all of it.
+  abbrev pub weightAt : CfgPoint → ℕ
+  weightAt (regionEntry r) = 1
+  weightAt (regionExit r) = 3 + (2 * length (regionOf F r .outs) + weighed ctrlWeight (ctrlOf F r))
+  weightAt (nodeEntry n) = nodeWeight (nodeOf F n)
+  weightAt (nodeExit n) = 1
 
   abbrev pub pointWeight : CfgPoint → ℕ
   pointWeight p = ((head + head) + weightAt p) + 2 * length (defaultsAt p)
