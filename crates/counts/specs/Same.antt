@@ -22,6 +22,7 @@ use Rattle.func.specs.Layout.{params, decls, values, nodeRefs, childRefs, regio
 use Rattle.func.specs.Store.{count, view}
 use Rattle.func.specs.Keep.{single, nodeNumber}
 use Rattle.func.specs.Decode.{numberOf}
+use Rattle.func.specs.Whole.{collections, sizes}
 use Rattle.func.specs.Tables.{Listed, word, list-count, item-is}
 use Rattle.func.specs.Stored.{Stored, region-nodes, ins-count, results-count, node-kind, values-count, node-children, outs-count}
 use Rattle.runs.specs.Tests.{every-all, stands-once}
@@ -115,9 +116,6 @@ module _ (F : Func) (w : List ℕ) (s : Stored F w) (l : withinLimits F ≡ true
   param-count : count params w ≡ length (F .params)
   param-count = omega (arith, s .counts params (lit< tt), limits F l .params)
 
-  child-count : count childRefs w ≡ length (childList F)
-  child-count = omega (arith, s .counts childRefs (lit< tt), fits (length (F .regions)) (childList F) (references F h .0) (tree F t .0), limits F l .regions)
-
   region-room : count regions w ≤ entryRoom regions
   region-room = omega (arith, region-count, limits F l .regions)
 
@@ -130,34 +128,40 @@ module _ (F : Func) (w : List ℕ) (s : Stored F w) (l : withinLimits F ≡ true
   decl-room : count decls w ≤ entryRoom decls
   decl-room = omega (arith, s .counts decls (lit< tt), limits F l .decls)
 
-  child-room : count childRefs w ≤ entryRoom childRefs
-  child-room = omega (arith, child-count, fits (length (F .regions)) (childList F) (references F h .0) (tree F t .0), limits F l .regions)
+  -- a pool of references, of which there are few enough
+  module _ (k : ℕ) (xs : List ℕ) (b : k < 9) (z : getD (sizes F) k 0 ≡ length xs) (v : getD (collections F) k [] ≡ map single xs) (few : length xs ≤ entryRoom k) where
+    ref-count : count k w ≡ length xs
+    ref-count = omega (arith, s .counts k (omega arith), few)
 
-  ref-few : length (nodeList F) ≤ 128
-  ref-few =
+    ref-room : count k w ≤ entryRoom k
+    ref-room = omega (arith, ref-count)
+
+    ref-at : (j : ℕ) → word k w j 0 ≡ getD xs j 0
+    ref-at j =
+        sym (List·getD-map numberOf (view k w) j [])
+        ∙ ap (λ (x : List (List ℕ)). getD (map numberOf x) j 0) (s .views k b (omega arith) ∙ v)
+        ∙ ap (λ (x : List ℕ). getD x j 0) (unsingle xs)
+
+    -- each names one of so many
+    ref-low : (n : ℕ) → every (λ x. ltb x n) xs ≡ true → (i : ℕ) → i < count k w → word k w i 0 < n
+    ref-low n low i m = subst (λ x. x < n) (sym (ref-at i)) (ltb-true (getD xs i 0) n (every-at (λ x. ltb x n) xs low i 0 (omega (arith, ref-count))))
+
+  children-few : length (childList F) ≤ entryRoom childRefs
+  children-few = omega (arith, fits (length (F .regions)) (childList F) (references F h .0) (tree F t .0), limits F l .regions)
+
+  child-room : count childRefs w ≤ entryRoom childRefs
+  child-room = ref-room childRefs (childList F) (lit< tt) refl refl children-few
+
+  nodes-few : length (nodeList F) ≤ entryRoom nodeRefs
+  nodes-few =
       let low = every-all (λ n. ltb n (length (F .nodes))) (λ n. n < length (F .nodes)) (λ n e. ltb-true n (length (F .nodes)) e) (nodeList F) (references F h .1) in
       omega (arith, fewer-below (length (F .nodes)) (nodeList F) (stands-once (length (F .nodes)) (nodeList F) (tree F t .1) low) low, limits F l .nodes)
 
-  ref-count : count nodeRefs w ≡ length (nodeList F)
-  ref-count = omega (arith, s .counts nodeRefs (lit< tt), ref-few)
-
-  ref-room : count nodeRefs w ≤ entryRoom nodeRefs
-  ref-room = omega (arith, ref-count, ref-few)
-
-  ref-at : (j : ℕ) → word nodeRefs w j 0 ≡ getD (nodeList F) j 0
-  ref-at j =
-      sym (List·getD-map numberOf (view nodeRefs w) j [])
-      ∙ ap (λ (x : List (List ℕ)). getD (map numberOf x) j 0) (s .views nodeRefs (lit< tt) (omega (arith, ref-room, ref-count)))
-      ∙ ap (λ (x : List ℕ). getD x j 0) (unsingle (nodeList F))
+  listed-room : count nodeRefs w ≤ entryRoom nodeRefs
+  listed-room = ref-room nodeRefs (nodeList F) (lit< tt) refl refl nodes-few
 
   nodes-of : (r : ℕ) → r < length (F .regions) → Listed nodeRefs single (regionOf F r .nodes) w (word regions w r 1)
-  nodes-of r m = region-nodes s region-room r m ref-room
-
-  child-at : (j : ℕ) → word childRefs w j 0 ≡ getD (childList F) j 0
-  child-at j =
-      sym (List·getD-map numberOf (view childRefs w) j [])
-      ∙ ap (λ (x : List (List ℕ)). getD (map numberOf x) j 0) (s .views childRefs (lit< tt) (omega (arith, child-room, child-count)))
-      ∙ ap (λ (x : List ℕ). getD x j 0) (unsingle (childList F))
+  nodes-of r m = region-nodes s region-room r m listed-room
 
   kids : (n : ℕ) → n < length (F .nodes) → Listed childRefs single (childrenOf (nodeOf F n)) w (word nodes w n 5)
   kids n m = node-children s node-room n m child-room
@@ -169,19 +173,13 @@ module _ (F : Func) (w : List ℕ) (s : Stored F w) (l : withinLimits F ≡ true
     node-room = node-room;
     child-room = child-room;
     child-runs = λ n m. kids n (omega (arith, node-count)) .piece .within;
-    child-low = λ i m. subst (λ x. x < count regions w) (sym (child-at i)) (low i m);
+    child-low = λ i m. omega (arith, region-count, ref-low childRefs (childList F) (lit< tt) refl refl children-few (length (F .regions)) (references F h .0) i m);
     loop-child = λ n m e. body n (omega (arith, node-count)) e;
-    ref-room = ref-room;
+    ref-room = listed-room;
     node-runs = λ r m. nodes-of r (omega (arith, region-count)) .piece .within;
-    node-low = λ i m. subst (λ x. x < count nodes w) (sym (ref-at i)) (ref-low i m);
+    node-low = λ i m. omega (arith, node-count, ref-low nodeRefs (nodeList F) (lit< tt) refl refl nodes-few (length (F .nodes)) (references F h .1) i m);
   }
     where
-      low : (i : ℕ) → i < count childRefs w → getD (childList F) i 0 < count regions w
-      low i m = omega (arith, region-count, ltb-true (getD (childList F) i 0) (length (F .regions)) (every-at (λ x. ltb x (length (F .regions))) (childList F) (references F h .0) i 0 (omega (arith, child-count))))
-
-      ref-low : (i : ℕ) → i < count nodeRefs w → getD (nodeList F) i 0 < count nodes w
-      ref-low i m = omega (arith, node-count, ltb-true (getD (nodeList F) i 0) (length (F .nodes)) (every-at (λ x. ltb x (length (F .nodes))) (nodeList F) (references F h .1) i 0 (omega (arith, ref-count))))
-
       body : (n : ℕ) → n < length (F .nodes) → word nodes w n 0 ≡ 3 → 0 < childrenIn w n
       body n m e = omega (arith, list-count (kids n m), loop-body (nodeOf F n) (sym (node-kind s node-room n m) ∙ e))
 

@@ -128,9 +128,9 @@ module _ (p t : CfgPoint) where
 pub stays-dropped : (T : Table) (q : CfgPoint) → useCount T q ≡ 0 → absorb T .counts q ≡ 0
 stays-dropped T q z = after-all (λ s. s .counts q ≡ 0) (λ b r s h e u k. stays-low q q q r (s .counts q) h) T z
 
-all-fuse : (P Q : CfgPoint × BlockLifting → Type 0) (b t : CfgPoint) (c : BlockLifting) → ((x : CfgPoint × BlockLifting) → P x → Q (x .0, refit b t c (x .0) (x .1))) → (T : Table) → All P T → All Q (fuse b t c T)
-all-fuse P Q b t c f [] h = tt
-all-fuse P Q b t c f (x ∷ T) h = (f x (h .0), all-fuse P Q b t c f T (h .1))
+all-fuse : (P : CfgPoint × BlockLifting → Type 0) (b t : CfgPoint) (c : BlockLifting) → ((x : CfgPoint × BlockLifting) → P x → P (x .0, refit b t c (x .0) (x .1))) → (T : Table) → All P T → All P (fuse b t c T)
+all-fuse P b t c f [] h = tt
+all-fuse P b t c f (x ∷ T) h = (f x (h .0), all-fuse P b t c f T (h .1))
 
 module _ (F : Func) (ok : Shaped F) where
   abbrev T : Table
@@ -202,7 +202,7 @@ module _ (F : Func) (ok : Shaped F) where
       by-find (some b) e = all-in Sorted U h (p, b) (find-in eqPoint p U e)
 
   sorted-taken : (b t : CfgPoint) (s : Absorbing) → All Sorted (s .table) → soleTarget (blockAt (s .table) b .term) ≡ some t → s .counts t ≡ 1 → blockAt (s .table) t .keys ≡ [] → All Sorted (taken b t s .table)
-  sorted-taken b t s h e u k = all-fuse Sorted Sorted b t (blockAt U t) (λ x g. by-point x g (eqPoint (x .0) t) (eqPoint (x .0) b)) U h
+  sorted-taken b t s h e u k = all-fuse Sorted b t (blockAt U t) (λ x g. by-point x g (eqPoint (x .0) t) (eqPoint (x .0) b)) U h
     where
       U : Table
       U = s .table
