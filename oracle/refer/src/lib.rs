@@ -1,4 +1,4 @@
-//! A plain reference of document 01 with requests W3 and W7 of document 02, written from these
+//! A plain reference of document 01 with requests W2, W3 and W7 of document 02, written from these
 //! papers: what `lift` prints for any input.
 //!
 //! It shares no code with the oracle. Terminators are what 'Running the regions and the blocks'
@@ -7,9 +7,11 @@
 pub mod list;
 pub mod read;
 pub mod refuse;
+pub mod run;
 
 use list::Line;
 use read::{Cursor, Func};
+use run::{Alike, World};
 
 /// The words that `lift` lends for each slice.
 const SLICE_WORDS: usize = 16_384;
@@ -35,6 +37,20 @@ pub fn answer(input: &[u8]) -> Answer {
 /// The lines of a text's kept blocks, or its refusal.
 pub fn blocks(text: &[u8]) -> Result<Vec<String>, u32> {
     Ok(list::block_lines(&parse(text)?))
+}
+
+/// Both runs of an input's text and of its list in so many worlds, or its refusal; none of an
+/// imported function. A string tells how they differ.
+pub fn runs(input: &[u8], worlds: u64) -> Result<Vec<Result<Alike, String>>, u32> {
+    let lines = match answer(input) {
+        Answer::List { lines, .. } => lines,
+        Answer::Refused(number) => return Err(number),
+    };
+    let mut cursor = Cursor(input);
+    cursor.first();
+    let func = parse(cursor.0)?;
+    let worlds = if func.imported { 0 } else { worlds };
+    Ok((0..worlds).map(|place| run::alike(&func, &lines, World::new(input, place))).collect())
 }
 
 /// Refusals 1 to 7 and 13, and the function.

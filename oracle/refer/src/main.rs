@@ -3,10 +3,15 @@
 //! With `--batch` standard input is many cases and standard output as many answers, each ended
 //! by a line `%%`. With `--totals` a list is followed by `(words N)` and `(next N)`, the word
 //! count and the next free id. With `--blocks` an input is a text without a first line, and what
-//! is printed are its kept blocks, or the refusal by 1 to 7 or 13.
+//! is printed are its kept blocks, or the refusal by 1 to 7 or 13. With `--runs` both runs are made
+//! of a text with a list, in several worlds, and it is printed how they end or how they differ.
 
-use refer::{Answer, answer, blocks};
+use refer::run::End;
+use refer::{Answer, answer, blocks, runs};
 use std::io::{self, Read, Write};
+
+/// The worlds in which `--runs` runs a text.
+const WORLDS: u64 = 8;
 
 type Print = fn(&mut dyn Write, &[u8]) -> io::Result<()>;
 
@@ -18,8 +23,9 @@ fn main() -> io::Result<()> {
             "--batch" => batch = true,
             "--totals" => print = |out, input| print_list(out, input, true),
             "--blocks" => print = print_blocks,
+            "--runs" => print = print_runs,
             _ => {
-                eprintln!("usage: refer [--batch] [--totals | --blocks]");
+                eprintln!("usage: refer [--batch] [--totals | --blocks | --runs]");
                 std::process::exit(2);
             }
         }
@@ -62,4 +68,29 @@ fn print_blocks(out: &mut dyn Write, text: &[u8]) -> io::Result<()> {
         Ok(lines) => lines.iter().try_for_each(|line| writeln!(out, "{line}")),
         Err(number) => writeln!(out, "(refused {number})"),
     }
+}
+
+/// A line for each world.
+fn print_runs(out: &mut dyn Write, input: &[u8]) -> io::Result<()> {
+    let found = match runs(input, WORLDS) {
+        Ok(found) => found,
+        Err(number) => return writeln!(out, "(refused {number})"),
+    };
+    for run in found {
+        match run {
+            Ok(run) => {
+                let end = match run.end {
+                    Some(End::Return(_)) => "return",
+                    Some(End::Unreachable) => "unreachable",
+                    Some(End::Exit(..)) if run.let_off => "exit of a case let off",
+                    Some(End::Exit(..)) => "exit",
+                    Some(End::Unset) => "a value not yet set",
+                    None => "no end yet",
+                };
+                writeln!(out, "(alike, {end})")?;
+            }
+            Err(difference) => writeln!(out, "(different)\n{difference}")?,
+        }
+    }
+    Ok(())
 }

@@ -1,5 +1,5 @@
-//! Document 01, 'When there is no list', refusals 3 to 7 and the ids of 9; and 13 of document 02,
-//! W7.
+//! Document 01, 'When there is no list', refusals 3 to 7 and the ids of 9; 6 with what W2 of
+//! document 02 lets off, and 13 of W7.
 
 use crate::read::*;
 
@@ -208,7 +208,7 @@ impl Func {
                 !fits
                     || cases.iter().any(|case| {
                         !region(*case).inputs.is_empty()
-                            || region(*case).outputs.len() != outs.len()
+                            || region(*case).outputs.len() != outs.len() && !self.is_ended(*case)
                     })
             }
             Node::Loop { body, inits, .. } => {
@@ -228,6 +228,25 @@ impl Func {
             || body.outputs.len() > usize::from(self.ctrls.is_empty())
             || self.nodes.iter().any(node_differs)
             || self.ctrls.iter().any(edge_differs)
+    }
+
+    /// Document 02, W2: 'A case whose last node is an exit may now have no outputs at all beside a
+    /// select with outs.' The last node is the last of the region's list, and it is itself an exit:
+    /// one that holds exits is none.
+    fn is_ended(&self, case: u32) -> bool {
+        let Region { nodes, outputs, .. } = &self.regions[case as usize];
+        let is_exit = |node: &u32| matches!(self.nodes[*node as usize], Node::Exit { .. });
+        outputs.is_empty() && nodes.last().is_some_and(is_exit)
+    }
+
+    /// Each case that has no outputs beside a select with outs, as it may: its select and itself.
+    /// For a function whose references hold.
+    pub fn let_off(&self) -> Vec<(u32, u32)> {
+        let selects = (0..).zip(&self.nodes).filter(|(_, node)| !node.outs().is_empty());
+        selects
+            .flat_map(|(number, node)| node.children().iter().map(move |case| (number, *case)))
+            .filter(|(_, case)| self.is_ended(*case))
+            .collect()
     }
 
     fn ctrl_wrong(&self) -> bool {
