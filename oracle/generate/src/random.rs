@@ -1,9 +1,11 @@
-//! Texts at random that refusals 1 to 9 and 13 let pass, and such that 13 refuses.
+//! Texts at random that refusals 1 to 9 and 13 let pass, such that 13 refuses, and near misses that
+//! 6 refuses.
 //!
 //! First the tree and the graph are made, each value slot with a value that is visible there;
 //! then some values are replaced by any that the text has, and all numbers are shuffled.
 
-use crate::print::Case;
+use crate::near::near_miss;
+use crate::print::{self, Case};
 use crate::rng::Rng;
 use refer::Answer;
 use refer::read::*;
@@ -24,6 +26,9 @@ pub struct Shape {
     pub unset: bool,
     /// In a hundred `bool` ctrl lines, those with equal targets; if any may have them, one has.
     pub equal: usize,
+    /// In a hundred cases of selects with outs, those that get an exit at their end and no outputs;
+    /// if any may get it, one does. Of those that end in one by chance, half have no outputs.
+    pub ended: usize,
 }
 
 pub fn imported(rng: &mut Rng) -> Case {
@@ -33,12 +38,21 @@ pub fn imported(rng: &mut Rng) -> Case {
 }
 
 pub fn body(rng: &mut Rng, shape: Shape) -> Case {
+    changed_body(rng, shape, |_, _| {})
+}
+
+/// A body that is changed before its numbers are shuffled.
+fn changed_body(rng: &mut Rng, shape: Shape, change: fn(&mut Rng, &mut Func)) -> Case {
     loop {
         let func = header(rng);
         let mut maker = Maker { rng, func, shape, lost: false, safe: vec![], any: vec![] };
         maker.roots();
         maker.disturb();
         let mut func = maker.func;
+        if shape.ended > 0 && func.let_off().is_empty() {
+            continue;
+        }
+        change(rng, &mut func);
         renumber(rng, &mut func);
         let case = finish(rng, func);
         if case.to_string().len() <= 32_000
@@ -75,6 +89,36 @@ pub fn equal(rng: &mut Rng, shape: Shape) -> Case {
     }
 }
 
+/// A text with a case that ends in an exit and has no outputs beside a select with outs; some have
+/// values at random, and some of these one that is not set.
+pub fn ended(rng: &mut Rng, shape: Shape) -> Case {
+    let shape = ended_shape(rng, shape);
+    let case = body(rng, shape);
+    assert!(case.func.refusal().is_none() && !case.func.let_off().is_empty());
+    case
+}
+
+/// As `ended`, but one in five nearly has such a case, which is refusal 6; of these some have a
+/// first id that is too low as well.
+pub fn near_ended(rng: &mut Rng, shape: Shape) -> Case {
+    if !rng.chance(20) {
+        return ended(rng, shape);
+    }
+    let shape = ended_shape(rng, shape);
+    let case = changed_body(rng, shape, near_miss);
+    assert_eq!(case.func.refusal(), Some(6));
+    let highest = case.func.highest_id() as usize;
+    let first = if rng.chance(10) { rng.below(highest + 1) as u32 } else { case.first };
+    Case { first, ..case }
+}
+
+fn ended_shape(rng: &mut Rng, shape: Shape) -> Shape {
+    let (wild, unset) = rng.pick(&[(0, false), (0, false), (0, false), (15, false), (25, true)]);
+    Shape { exits: 8, wild, unset, ended: 45, ..shape }
+}
+
+/// `OpKill`.
+pub const KILL: u32 = 252;
 const OPCODES: [u32; 14] = [0, 1, 43, 48, 59, 61, 62, 81, 128, 199, 251, 252, 4416, 65_535];
 const CONST_OPCODES: [u32; 12] = [41, 41, 42, 43, 43, 44, 48, 0, 65_535, 12, 249, 250];
 
@@ -106,11 +150,11 @@ fn ty(rng: &mut Rng) -> u32 {
     1 + rng.below(9) as u32
 }
 
-fn decl(rng: &mut Rng) -> Decl {
+pub fn decl(rng: &mut Rng) -> Decl {
     Decl { attrs: attrs(rng), ty: ty(rng) }
 }
 
-fn inst(rng: &mut Rng) -> Inst {
+pub fn inst(rng: &mut Rng) -> Inst {
     let imms = if rng.chance(70) { 0 } else { 1 + rng.below(3) };
     Inst {
         opcode: rng.pick(&OPCODES),
@@ -204,10 +248,8 @@ impl Maker<'_> {
         let number = self.func.nodes.len();
         self.func.nodes.push(Node::Block { ops: vec![] });
         let node = if self.rng.chance(self.shape.exits) {
-            let count = self.few(2);
-            let values = self.values(visible, count);
             self.lost = true;
-            Node::Exit { inst: inst(self.rng), values }
+            self.exit(visible)
         } else {
             match self.rng.below(10) {
                 0..5 => self.block(visible),
@@ -217,6 +259,12 @@ impl Maker<'_> {
         };
         self.func.nodes[number] = node;
         number as u32
+    }
+
+    fn exit(&mut self, visible: &[Value]) -> Node {
+        let count = self.few(2);
+        let values = self.values(visible, count);
+        Node::Exit { inst: inst(self.rng), values }
     }
 
     fn block(&mut self, visible: &mut Vec<Value>) -> Node {
@@ -260,13 +308,33 @@ impl Maker<'_> {
         for _ in 0..count {
             let case = self.new_region(vec![]);
             let inner = self.fill(case, visible, budget, depth + 1);
-            self.func.regions[case as usize].outputs = self.values(&inner, outs);
+            if !(outs > 0 && self.ends(case, &inner)) {
+                self.func.regions[case as usize].outputs = self.values(&inner, outs);
+            }
             cases.push(case);
         }
         for i in 0..outs as u32 {
             self.give(visible, Value::Out(number, i));
         }
         Node::Select { kind, scrutinee, cases, outs: self.decls(outs) }
+    }
+
+    /// Whether a case ends in an exit and is to have no outputs; some get the exit here.
+    fn ends(&mut self, case: u32, inner: &[Value]) -> bool {
+        if self.shape.ended > 0 && self.rng.chance(self.shape.ended) {
+            let mut exit = self.exit(inner);
+            if let Node::Exit { inst, .. } = &mut exit
+                && self.rng.chance(50)
+            {
+                *inst = print::inst(KILL);
+            }
+            self.func.regions[case as usize].nodes.push(self.func.nodes.len() as u32);
+            self.func.nodes.push(exit);
+            return true;
+        }
+        let last = self.func.regions[case as usize].nodes.last();
+        let is_exit = |node: &u32| matches!(self.func.nodes[*node as usize], Node::Exit { .. });
+        last.is_some_and(is_exit) && self.rng.chance(50)
     }
 
     fn selection(&mut self) -> Selection {
