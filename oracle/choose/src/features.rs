@@ -54,6 +54,7 @@ pub fn features(func: &Func, first: u32) -> Features {
     let mut found = Found { func, features: Features::new() };
     found.header(first);
     found.nodes();
+    found.let_off();
     found.ops();
     found.ctrls();
     if !func.imported {
@@ -85,9 +86,20 @@ impl Found<'_> {
         }
     }
 
+    /// What a region belongs to.
+    fn parent_name(&self, region: u32) -> &'static str {
+        let parent = self.func.nodes.iter().find(|node| node.children().contains(&region));
+        parent.map_or(if region == 0 { "body" } else { "root" }, node_name)
+    }
+
     fn uses(&mut self, place: &str, values: &[Value]) {
         for value in values {
             self.add(format!("{place} is a {}", self.value_name(*value)));
+            if let Value::Out(node, _) = value
+                && self.func.let_off().iter().any(|(select, _)| select == node)
+            {
+                self.add(format!("{place} is a out with a case let off"));
+            }
         }
     }
 
@@ -109,8 +121,7 @@ impl Found<'_> {
     fn nodes(&mut self) {
         let func = self.func;
         for (place, region) in (0..).zip(&func.regions) {
-            let parent = func.nodes.iter().find(|node| node.children().contains(&place));
-            let parent = parent.map_or(if place == 0 { "body" } else { "root" }, node_name);
+            let parent = self.parent_name(place);
             self.add(format!("{parent} holds {} nodes", size(region.nodes.len())));
             self.uses(&format!("output of a {parent} region"), &region.outputs);
             let names: Vec<&str> =
@@ -120,6 +131,9 @@ impl Found<'_> {
             }
             for pair in names.windows(2) {
                 self.add(format!("{} after {}", pair[1], pair[0]));
+            }
+            if names.last() == Some(&"exit") && !region.outputs.is_empty() {
+                self.add(format!("{parent} region that ends in an exit and has outputs"));
             }
         }
         for node in &func.nodes {
@@ -156,6 +170,44 @@ impl Found<'_> {
                     self.add(format!("exit of {} values", size(values.len())));
                     self.uses("exit's value", values);
                     self.inst("exit", inst);
+                }
+            }
+        }
+    }
+
+    /// Cases without outputs beside outs, which end in an exit.
+    fn let_off(&mut self) {
+        let func = self.func;
+        let let_off = func.let_off();
+        for (number, node) in (0..).zip(&func.nodes) {
+            let (name, all) = (node_name(node), node.children());
+            let of_node = |(select, case): &(u32, u32)| (*select == number).then_some(*case);
+            let cases: Vec<u32> = let_off.iter().filter_map(of_node).collect();
+            if cases.is_empty() {
+                continue;
+            }
+            if cases.len() == all.len() {
+                self.add(format!("{name}, all {} cases let off", size(cases.len())));
+            } else {
+                self.add(format!("{name}, {} cases let off, not all", size(cases.len())));
+                for (place, case) in [("first", all[0]), ("last", all[all.len() - 1])] {
+                    if cases.contains(&case) {
+                        self.add(format!("{name}, the {place} case let off, not all"));
+                    }
+                }
+            }
+            let holder = func.regions.iter().position(|region| region.nodes.contains(&number));
+            let holder = holder.unwrap() as u32;
+            self.add(format!("{name} with a case let off in {}", self.parent_name(holder)));
+            if let_off.iter().any(|(_, case)| *case == holder) {
+                self.add(format!("{name} with a case let off in a case let off"));
+            }
+            for case in cases {
+                let nodes = &func.regions[case as usize].nodes;
+                self.add(format!("case let off of {} nodes", size(nodes.len())));
+                if let [.., before, _] = nodes[..] {
+                    let before = node_name(&func.nodes[before as usize]);
+                    self.add(format!("case let off that ends in an exit after {before}"));
                 }
             }
         }

@@ -18,12 +18,13 @@ const LONG: usize = 8;
 
 /// How many random cases of each kind, and each how many-th of the exhaustive ones, are there to
 /// choose from.
-const POOL: [(&str, u64); 5] = [
+const POOL: [(&str, u64); 6] = [
     ("structured", 4000),
     ("unstructured", 6000),
     ("mixed", 4000),
     ("wild", 8000),
     ("imported", 300),
+    ("ended", 4000),
 ];
 const SAMPLED: [(&str, usize); 2] = [("skeletons", 7), ("graphs", 101)];
 
@@ -71,7 +72,7 @@ fn main() -> io::Result<()> {
             choice.take(case);
         }
     }
-    for kind in ["structured", "unstructured", "wild"] {
+    for kind in ["structured", "unstructured", "wild", "ended"] {
         let long = (0..).filter_map(|i| generate::random(kind, SEED + 1, i));
         long.filter(|case| (1_200..2_000).contains(&case.len()))
             .take(LONG)

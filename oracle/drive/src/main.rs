@@ -7,8 +7,9 @@
 //! Rust's, refusal 10 stand where the Rust panics, and the other refusals, which the Rust does not
 //! have, where the reference `refer` has them.
 //!
-//! Prints the counts and the shortest differences. A first line is the program `lift`'s and not
-//! the library's, so cases with a bad one are only counted. Exit status 0 if nothing differs.
+//! Prints the counts, also of the lists whose text has a case let off (document 02, W2), and the
+//! shortest differences. A first line is the program `lift`'s and not the library's, so cases with
+//! a bad one are only counted. Exit status 0 if nothing differs.
 
 mod call;
 
@@ -30,6 +31,8 @@ pub enum Expected {
 
 /// How many differences are shown.
 const SHOWN: usize = 3;
+/// The kind of an answer that is a list.
+const LIST: &str = "lists equal";
 
 fn main() -> io::Result<()> {
     std::panic::set_hook(Box::new(|_| {}));
@@ -42,13 +45,17 @@ fn main() -> io::Result<()> {
 fn run() -> io::Result<bool> {
     let mut library = Library::new();
     let mut counts = BTreeMap::new();
+    let mut let_off = 0;
     let mut differences = vec![];
     let mut input = io::stdin().lock();
     let (mut case, mut line) = (vec![], vec![]);
     while input.read_until(b'\n', &mut line)? > 0 {
         if line == b"%%\n" {
             match judge(&mut library, &case) {
-                Ok(kind) => *counts.entry(kind).or_insert(0_usize) += 1,
+                Ok(kind) => {
+                    let_off += usize::from(kind == LIST && has_case_let_off(&case));
+                    *counts.entry(kind).or_insert(0_usize) += 1;
+                }
                 Err(difference) => differences.push((case.clone(), difference)),
             }
             case.clear();
@@ -60,6 +67,8 @@ fn run() -> io::Result<bool> {
     for (kind, count) in &counts {
         println!("  {count:8} {kind}");
     }
+    println!("  {let_off:8} of the lists equal are of texts with a case let off");
+    println!("  {:8} inputs", counts.values().sum::<usize>() + differences.len());
     println!("  {:8} calls", library.calls);
     differences.sort_by_key(|(case, _)| case.len());
     for (case, difference) in differences.iter().take(SHOWN) {
@@ -93,7 +102,7 @@ fn judge(library: &mut Library, case: &[u8]) -> Result<String, String> {
                 library.lift(text, first, lengths, &expected)?;
             }
             let longer = "longer lists equal, refused with 11 for 16,384 words";
-            Ok(if length > full { longer } else { "lists equal" }.to_owned())
+            Ok(if length > full { longer } else { LIST }.to_owned())
         }
         Expected::Refused(number) => {
             library.lift(text, first, [full; 3], &expected)?;
@@ -101,6 +110,12 @@ fn judge(library: &mut Library, case: &[u8]) -> Result<String, String> {
             Ok(format!("refused {number:2}"))
         }
     }
+}
+
+/// Whether a case has no outputs beside a select with outs, as it may if it ends in an exit.
+fn has_case_let_off(case: &[u8]) -> bool {
+    let mut cursor = Cursor(case);
+    cursor.first().is_some() && refer::parse(cursor.0).is_ok_and(|func| !func.let_off().is_empty())
 }
 
 /// What the Rust and the reference say, if they agree with each other.
