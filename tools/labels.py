@@ -3,10 +3,9 @@
 A `bool` ctrl line may not have them, reached or not; a selection by an instruction may. So a text that nothing else refuses is refused by 13
 with `bool`, and with `(inst 251)` in the same place it isn't.
 """
-from texts import CONST, EMPTY, HEAD, RETURN, SWITCH, items, region, way
+from texts import CONST, EMPTY, HEAD, RETURN, START, SWITCH, long_list, region, way
 from vectors import HIGHEST_ID
 
-START = HEAD + CONST
 INPUT = region(ins=' (0 4)')
 FIRST = 10
 
@@ -133,9 +132,6 @@ def labels():
     yield from later()
 
 
-def long_list(kind):
-    """120 loops with four inputs each and 512 ops, whose list has over 16,384 words, and two equal targets."""
-    body = region(ins=items('(0 4)', 4), out=items('(c 0)', 4))
-    loops = ''.join(f"(loop {i} (c 0) (init{items('(c 0)', 4)}))\n" for i in range(1, 121))
-    ops = f"(block{items('{}', 512)})\n" + '(op 0 0 (inst 1 (0 5 0)))\n' * 250 + '(op 0 0 (inst 1))\n' * 262
-    return START + region(nodes=items('{}', 121)) + body * 120 + EMPTY + loops + ops + way(0, kind, [121, 121]) + way(121, 'return')
+def too_long(kind):
+    """A list that is too long, and two equal targets."""
+    return long_list(regions=EMPTY, ctrls=way(0, kind, [121, 121]) + way(121, 'return'))

@@ -2,6 +2,7 @@
 
 HEAD = '(func 0 2 3 0)\n'
 CONST = '(const 5 43)\n'
+START = HEAD + CONST
 EMPTY = '(region (in) (nodes) (out))\n'
 # A selection by an instruction.
 SWITCH = '(inst 251)'
@@ -30,3 +31,13 @@ def way(region, kind, to=(), attrs=0, vals='', ins=None):
 
 # Region 1 returns.
 RETURN = way(1, 'return')
+
+
+def long_list(held='', regions='', nodes='', ctrls=''):
+    """120 loops with four inputs each and a block of 512 ops, whose list has over 16,384 words. To region 0's nodes, 0 to 120, come those `held`; to
+    regions, 0 to 120, and to nodes those given, and then ctrl lines."""
+    body = region(ins=items('(0 4)', 4), out=items('(c 0)', 4))
+    loops = ''.join(f"(loop {i} (c 0) (init{items('(c 0)', 4)}))\n" for i in range(1, 121))
+    ops = '(op 0 0 (inst 1 (0 5 0)))\n' * 250 + '(op 0 0 (inst 1))\n' * 262
+    lines = region(nodes=items('{}', 121) + held) + body * 120 + regions
+    return START + lines + loops + f"(block{items('{}', 512)})\n" + nodes + ops + ctrls

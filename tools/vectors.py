@@ -8,6 +8,10 @@ HIGHEST_ID = 4194302
 RESULTS = re.compile(rb'^\([0-9]+ [0-9]+ [0-9]+ ([0-9]+) ', re.MULTILINE)
 # A `bool` ctrl line with two equal targets (document 02, W7), in a text that refusals 1 to 7 let pass.
 EQUAL = re.compile(rb'^\(ctrl [0-9]+ [0-9]+ bool .* \(to ([0-9]+) \1\) \(vals', re.MULTILINE)
+# A region's nodes and outputs, a node, and the cases of a select with outs, in a text that refusals 1 to 4 let pass.
+REGION = re.compile(rb'^\(region .* \(nodes([ 0-9]*)\) \(out(.*)\)\)$', re.MULTILINE)
+NODE = re.compile(rb'^\((?:block|select|loop|exit)\b.*$', re.MULTILINE)
+SELECT = re.compile(rb'\(select .* \(cases([ 0-9]*)\) \(outs .+\)\)')
 # The refusals that come before 13.
 EARLIER = re.compile(rb'\(refused [1-8]\)\n')
 
@@ -17,9 +21,19 @@ def equal_targets(text):
     return bool(EQUAL.search(text))
 
 
+def let_off(text):
+    """Whether a case has no outputs beside a select with outs, as it may if its last node is an exit (document 02, W2)."""
+    regions, nodes = REGION.findall(text), NODE.findall(text)
+    selects = filter(None, map(SELECT.fullmatch, nodes))
+    cases = [regions[int(case)] for select in selects for case in select[1].split()]
+    return any(held and not out and nodes[int(held.split()[-1])].startswith(b'(exit') for held, out in cases)
+
+
 def answered(case, answer):
     """What an answer by document 01 becomes by the requests of document 02 that are in force."""
     if EARLIER.fullmatch(answer):
+        # where a case is let off the rest of the text would have to be judged anew, and no vector has one
+        assert answer != b'(refused 6)\n' or not let_off(case)
         return answer
     if equal_targets(case):
         return b'(refused 13)\n'
