@@ -144,7 +144,8 @@ fn refusals() {
 /// A select by `bool` with one out, whose two cases have these nodes and outputs; node 1 is an exit
 /// and node 2 is another or an empty block.
 fn select(cases: [(&str, &str); 2], node: &str) -> String {
-    let [first, second] = cases.map(|(nodes, out)| format!("(region (in) (nodes{nodes}) (out{out}))\n"));
+    let [first, second] =
+        cases.map(|(nodes, out)| format!("(region (in) (nodes{nodes}) (out{out}))\n"));
     format!(
         "(const 5 43)\n(region (in) (nodes 0) (out (n 0 0)))\n{first}{second}\
         (select bool (c 0) (cases 1 2) (outs (0 4)))\n(exit (inst 252))\n{node}"
