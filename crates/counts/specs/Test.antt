@@ -48,10 +48,11 @@ endsAt w r (suc k) = eqb (word nodes w (nodeIn w r k) 0) 4
 abbrev pub endsTest : List ℕ → ℕ → Bool
 endsTest w r = endsAt w r (nodesIn w r)
 
--- region c fits as a case of node n, and as a loop's body
+-- region c's outputs fit the outs of node n
 abbrev pub outsTest : List ℕ → ℕ → ℕ → Bool
 outsTest w n c = eqb (resultsIn w c) (outsIn w n) || (eqb (resultsIn w c) 0 && endsTest w c)
 
+-- region c fits as a case of node n, and as a loop's body
 abbrev pub caseTest : List ℕ → ℕ → ℕ → Bool
 caseTest w n c = eqb (insIn w c) 0 && outsTest w n c
 
