@@ -141,8 +141,8 @@ fn refusals() {
     assert_eq!(refusal(10, empty), (11, Refusal::Output { wanted: 28 }));
 }
 
-/// A select by `bool` with one out, whose two cases have these nodes and outputs; node 1 is an exit
-/// and node 2 is another or an empty block.
+/// A select by `bool` with one out, whose two cases have these nodes and outputs; node 1 is an exit,
+/// and `node` is the line of node 2, if there is one.
 fn select(cases: [(&str, &str); 2], node: &str) -> String {
     let [first, second] =
         cases.map(|(nodes, out)| format!("(region (in) (nodes{nodes}) (out{out}))\n"));

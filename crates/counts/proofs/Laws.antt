@@ -32,7 +32,7 @@ module _ {w : List ℕ} (s : CountsSafe w) where
 
   module _ {r i : ℕ} (h : r < count regions w) (l : i < nodesIn w r) where
     ref-below : word regions w r 1 / 4096 + i < count nodeRefs w
-    ref-below = omega (arith, s .node-runs r h)
+    ref-below = omega (arith, s .region-runs r h)
 
     pub ref-in : (i ≤ 4095) × Within nodeRefs w (word regions w r 1 / 4096 + i)
     ref-in = (omega arith, record { size = s .size; pool = lit< tt; fits = s .ref-room; below = ref-below })

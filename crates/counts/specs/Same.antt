@@ -176,7 +176,7 @@ module _ (F : Func) (w : List ℕ) (s : Stored F w) (l : withinLimits F ≡ true
     child-low = λ i m. omega (arith, region-count, ref-low childRefs (childList F) (lit< tt) refl refl children-few (length (F .regions)) (references F h .0) i m);
     loop-child = λ n m e. body n (omega (arith, node-count)) e;
     ref-room = listed-room;
-    node-runs = λ r m. nodes-of r (omega (arith, region-count)) .piece .within;
+    region-runs = λ r m. nodes-of r (omega (arith, region-count)) .piece .within;
     node-low = λ i m. omega (arith, node-count, ref-low nodeRefs (nodeList F) (lit< tt) refl refl nodes-few (length (F .nodes)) (references F h .1) i m);
   }
     where

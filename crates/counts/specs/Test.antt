@@ -95,5 +95,5 @@ pub record CountsSafe (w : List ℕ) : Type 0 where
   pub loop-child : (n : ℕ) → n < count nodes w → word nodes w n 0 ≡ 3 → 0 < childrenIn w n
   -- the nodes of a region stand in theirs, and each is a node
   pub ref-room : count nodeRefs w ≤ entryRoom nodeRefs
-  pub node-runs : (r : ℕ) → r < count regions w → word regions w r 1 / 4096 + nodesIn w r ≤ count nodeRefs w
+  pub region-runs : (r : ℕ) → r < count regions w → word regions w r 1 / 4096 + nodesIn w r ≤ count nodeRefs w
   pub node-low : (i : ℕ) → i < count nodeRefs w → word nodeRefs w i 0 < count nodes w

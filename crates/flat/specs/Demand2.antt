@@ -1,6 +1,6 @@
 -- Demand 2 about the list that is written, for every accepted text, imported functions too: new ids run from the first id to one below the next
 -- free id, none twice; every id in the list is below that one, which is 4,194,303 at most; a phi has one pair for each kept block with an edge to
--- it, holding that edge's value; and the two labels of a 250 differ. No hypothesis beyond the answer. Assumes nothing.
+-- it, holding that edge's value; the exit of a case whose last node is an exit stands in no kept block; and the two labels of a 250 differ. No hypothesis beyond the answer. Assumes nothing.
 use mathlib.Core.Path.{_≡_, refl, sym, ap, _∙_, subst}
 use mathlib.Core.Bool.{true}
 use mathlib.Core.List.{List}
@@ -67,9 +67,9 @@ module _ (text : List ℕ) (first func work out : ℕ) (ws : List ℕ) (next : �
       (sym blocks-are) (phi-pairs-of F first T K (f .sound) (f .points-once))
 
   -- Document 02, W2: the exit of a case whose last node is an exit stands in no kept block, so phis take no pair from it.
-  pub no-pair-after-exit : (n c : ℕ) {k : SelectionKind} {v : Value} {cs : List ℕ} {ds : List Decl} → nodeOf F n ≡ select k v cs ds → In c cs → endsInExit F (regionOf F c .nodes) ≡ true
+  pub exit-of-case-gone : (n c : ℕ) {k : SelectionKind} {v : Value} {cs : List ℕ} {ds : List Decl} → nodeOf F n ≡ select k v cs ds → In c cs → endsInExit F (regionOf F c .nodes) ≡ true
       → (i : ℕ) → i < length (walkOf F) → getD (walkOf F) i noPair .0 ≡ regionExit c → statusAt (useCount (walkOf F)) (walkOf F) i ≡ gone
-  no-pair-after-exit n c e j en = of-walk F (λ (U : Table). (i : ℕ) → i < length U → getD U i noPair .0 ≡ regionExit c → statusAt (useCount U) U i ≡ gone)
+  exit-of-case-gone n c e j en = of-walk F (λ (U : Table). (i : ℕ) → i < length U → getD U i noPair .0 ≡ regionExit c → statusAt (useCount U) U i ≡ gone)
       (λ body. case-exit-gone F (shaped body) n c e j en) (λ i h. absurd (omega arith))
 
   -- the test that an absorbed target has no phis never decides

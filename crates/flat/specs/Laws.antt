@@ -20,7 +20,6 @@ use Rattle.lifting.specs.Answer.{isSet, usedValues, valuesSet}
 use Rattle.runs.specs.Members.{In, NoDup}
 use Rattle.runs.specs.Accepted.{Numbered}
 use Rattle.runs.specs.Refers.{Refers}
-use Rattle.runs.specs.Ended.{Ended}
 use Rattle.runs.specs.Terms.{TermOk}
 use Rattle.flat.specs.Flat.{Pass, blockParts, fuseAll, gone, noPair, partAt, statusAt, upTo}
 use Rattle.runs.specs.Shaped.{Shaped, walk-first, walk-once}
@@ -35,7 +34,7 @@ use Rattle.flat.specs.NeverDecides.{by-count-alone, keptByCount}
 use Rattle.flat.specs.Phis.{SamePhis, edge-kept, phi-keys-kept, with-phis}
 use Rattle.flat.specs.SetIds.{id-at, names-once, set-id}
 use Rattle.flat.specs.Kept.{edge-fits, label-kept}
-use Rattle.flat.specs.Standing.{ended-gone, stands-term}
+use Rattle.flat.specs.Standing.{stands-term}
 use Rattle.flat.specs.Missing.{list-set}
 use Rattle.flat.specs.ListFlat
 
@@ -117,11 +116,8 @@ module _ (F : Func) where
     pub edges-fit : (x : CfgPoint × BlockLifting) → In x K → (q : CfgPoint) → In q (x .1 .term .targets) → (b : BlockLifting) → In (q, b) K → length (b .keys) ≡ length (edgeOf K (x .1 .term) q)
     edges-fit = edge-fits F ok
 
-    -- The same of the visited points: one that does not stand in a kept block is gone, and the way out of any other takes as many values along
-    -- each edge as the target has phis. A case that ends in an exit may have too few outputs; no run comes to its exit, and it is gone.
-    pub no-run-gone : (i : ℕ) → i < length T → Ended F (getD T i noPair .0) → statusAt (useCount T) T i ≡ gone
-    no-run-gone = ended-gone F ok
-
+    -- The same of the visited points that are not gone, so stand in a kept block. A case that ends in an exit may have too few outputs, and its
+    -- exit is gone.
     pub stands-fit : (i : ℕ) → i < length T → ¬ (statusAt (useCount T) T i ≡ gone) → TermOk T (getD T i noPair .1 .term)
     stands-fit = stands-term F ok
 

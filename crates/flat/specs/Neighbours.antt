@@ -48,7 +48,7 @@ once-apart (x ∷ P) L o p i h = elim (in-cases h) [
   | inr k ↦ once-apart P L (o .1) p i k
 ]
 
-block-in : (T : Table) → Once T → (x : CfgPoint × BlockLifting) → In x T → blockAt T (x .0) ≡ x .1
+pub block-in : (T : Table) → Once T → (x : CfgPoint × BlockLifting) → In x T → blockAt T (x .0) ≡ x .1
 block-in T o x i = ap blockOr (find-unique T (unique-of T o) (x .0) (x .1) i)
 
 -- one absorption, of a neighbour

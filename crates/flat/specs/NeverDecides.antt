@@ -18,15 +18,15 @@ use Rattle.lifting.specs.Walk.{Place, exitBlock, inBlock, inNode, walkOf}
 use Rattle.lifting.specs.Absorb.{Absorbing, absorb, absorbAll, ifNoPhis, keep, kept, soleTarget, tryTarget, useCount}
 use Rattle.runs.specs.Members.{In, all-from, all-in, here}
 use Rattle.runs.specs.Tests.{find-in}
-use Rattle.runs.specs.Tour.{find-unique, unique-of}
 use Rattle.runs.specs.Places.{Suffix, Visited}
 use Rattle.runs.specs.AbsorbCount.{block-keys, sole-straight}
 use Rattle.runs.specs.Each.{Each, each-at, each-fuse, taken}
 use Rattle.runs.specs.Terms.{TermOk}
-use Rattle.runs.specs.Ended.{LetOff}
+use Rattle.runs.specs.Ended.{EndedCase}
 use Rattle.runs.specs.Shaped.{Shaped, laid, terms, walk-once}
 use Rattle.flat.specs.Chain.{chain-all, none-some}
 use Rattle.flat.specs.Steps.{Step, step-entry, step-exit, step-in, step-out, walk-steps}
+use Rattle.flat.specs.Neighbours.{block-in}
 use Rattle.flat.specs.Nearby.{child-busy, loop-busy}
 
 -- as `tryTarget`, without the test: if the target has use count 1
@@ -123,10 +123,10 @@ module _ (F : Func) (ok : Shaped F) where
           absurd (omega (arith, all-in Busy T (chain-all (Step F) Busy step-busy T none (walk-steps F ok)) (t, b) (find-in eqPoint t T f) (λ z. let o : _≡_ {A = ℕ} 0 1 = cc in omega arith)))
 
   -- a case that ends in an exit
-  case-clear : (p : CfgPoint) (b : BlockLifting) → LetOff F p → In (p, b) T → Clear T b
+  case-clear : (p : CfgPoint) (b : BlockLifting) → EndedCase F p → In (p, b) T → Clear T b
   case-clear (regionEntry r) b lo i t e u = absurd lo
   case-clear (regionExit r) b lo i t e u =
-      let same : b ≡ exitBlock F r (inNode (lo .node)) = ap blockOr (sym (find-unique T (unique-of T (walk-once F ok)) (regionExit r) b i)) ∙ laid F ok .exit-at (lo .stands) in
+      let same : b ≡ exitBlock F r (inNode (lo .node)) = sym (block-in T (walk-once F ok) (regionExit r, b) i) ∙ laid F ok .exit-at (lo .stands) in
       absurd (child-busy F ok t (lo .stands) (ap (λ (d : BlockLifting). soleTarget (d .term)) (sym same) ∙ e) u)
   case-clear (nodeEntry n) b lo i t e u = absurd lo
   case-clear (nodeExit n) b lo i t e u = absurd lo

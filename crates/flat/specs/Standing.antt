@@ -1,11 +1,11 @@
--- A visited point that no run comes to stands in no kept block (W2), so a way out that is written takes as many values along each edge as the
--- target has phis. Assumes nothing.
+-- The exit of an exit node, and of a case that ends in one, stands in no kept block (W2), so a way out that is written takes as many values along
+-- each edge as the target has phis. Assumes nothing.
 --     ended-gone     such a point is gone
 --     stands-term    the way out of a point that is not
 use mathlib.Core.Path.{_≡_, refl, sym, ap, _∙_, subst}
 use mathlib.Core.Logic.{inl, inr}
 use mathlib.Core.Bool.{Bool, true, false}
-use mathlib.Core.List.{List, [], _∷_, map}
+use mathlib.Core.List.{List, [], _∷_}
 use mathlib.Core.Option.{Option, none, some}
 use Prim.Native.Nat.{ℕ, zero, suc, _<_}
 use native.Mathlib.Decide.{decLt, ℕ-discrete}
@@ -15,14 +15,13 @@ use Rattle.lifting.specs.Lists.{choose, choose-yes}
 use Rattle.lifting.specs.Ast.{Decl, Func, SelectionKind, Value, select}
 use Rattle.lifting.specs.Parts.{nodeOf, regionOf}
 use Rattle.lifting.specs.Counts.{endsInExit}
-use Rattle.lifting.specs.Points.{BlockLifting, CfgPoint, Table, Terminator, blockAt, blockOr, eqPoint, nodeExit, points, regionEntry, regionExit, straight}
+use Rattle.lifting.specs.Points.{BlockLifting, CfgPoint, Table, Terminator, blockAt, eqPoint, nodeEntry, nodeExit, points, regionEntry, regionExit, straight}
 use Rattle.lifting.specs.Walk.{Place, walkOf}
 use Rattle.lifting.specs.Absorb.{soleTarget, useCount}
-use Rattle.runs.specs.Members.{In, NoDup, all-in, in-cases, in-getD, in-nil}
-use Rattle.runs.specs.Tests.{once-by}
+use Rattle.runs.specs.Members.{In, all-in, in-cases, in-getD, in-nil}
 use Rattle.runs.specs.Places.{Visited, whole}
-use Rattle.runs.specs.Tour.{find-unique, unique-of}
-use Rattle.runs.specs.Ended.{CaseEnds, Ended, last-exit, let-off-ended, suffix-last}
+use Rattle.runs.specs.Tour.{same-position}
+use Rattle.runs.specs.Ended.{CaseEnds, Ended, last-exit, case-ended, suffix-last}
 use Rattle.runs.specs.Terms.{TermOk}
 use Rattle.runs.specs.Shaped.{Shaped, laid, terms, visited-out, walk-once}
 use Rattle.runs.specs.EndedKept.{case-ends, count-case, count-out, last, last-leads}
@@ -30,16 +29,13 @@ use Rattle.flat.specs.Flat.{Status, byCount, carry, glueAt, glues, glues
 use Rattle.flat.specs.FlatLaws.{glue-last, glue-next}
 use Rattle.flat.specs.Chain.{chain-at}
 use Rattle.flat.specs.Steps.{Step, step-entry, step-exit, step-in, step-out, walk-steps}
+use Rattle.flat.specs.Neighbours.{block-in}
 use Rattle.flat.specs.Follow.{goesOn, walk-follows}
 
 -- positions
 position : (T : Table) (p : CfgPoint) → In p (points T) → (k : ℕ) × (k < length T) × (getD T k noPair .0 ≡ p)
 position [] p h = absurd (in-nil h)
 position (x ∷ T) p h = elim (in-cases h) [ inl e ↦ (0, omega arith, sym e) | inr i ↦ (let w = position T p i in (suc (w .0), omega (arith, w .1), w .2)) ]
-
-points-map : (T : Table) → points T ≡ map (λ (x : CfgPoint × BlockLifting). x .0) T
-points-map [] = refl
-points-map (x ∷ T) = ap (λ (l : List CfgPoint). x .0 ∷ l) (points-map T)
 
 abbrev firstPoint : List CfgPoint → CfgPoint
 firstPoint [] = regionEntry 0
@@ -90,7 +86,7 @@ module _ (F : Func) (ok : Shaped F) where
 
   -- the block at a position is the one found at its point
   at-block : (i : ℕ) → i < length (walkOf F) → blockAt (walkOf F) (at i .0) ≡ at i .1
-  at-block i h = ap blockOr (find-unique T (unique-of T (walk-once F ok)) (at i .0) (at i .1) (in-getD T i noPair h))
+  at-block i h = block-in T (walk-once F ok) (at i) (in-getD T i noPair h)
 
   module _ (r : ℕ) (ce : CaseEnds F r) where
     abbrev l : ℕ
@@ -105,7 +101,7 @@ module _ (F : Func) (ok : Shaped F) where
         let t : at k .1 .term ≡ straight (regionExit r) = ap (λ (b : BlockLifting). b .term) (sym (at-block k (w .1))) ∙ ap (λ (p : CfgPoint). blockAt T p .term) (w .2) ∙ last-leads F ok r ce in
         let same : straight (at (suc k) .0) ≡ straight (regionExit r) = sym (f .1) ∙ t in
         let point : at (suc k) .0 ≡ regionExit r = first-target same in
-        (k, once-by (λ (x : CfgPoint × BlockLifting). x .0) noPair T (subst (λ (ps : List CfgPoint). NoDup ps) (points-map T) (walk-once F ok)) i (suc k) h (f .0) (e ∙ sym point), w .2, t)
+        (k, same-position noPair T (walk-once F ok) i (suc k) h (f .0) (e ∙ sym point), w .2, t)
 
     case-gone : (i : ℕ) → i < length (walkOf F) → at i .0 ≡ regionExit r → statusAt (useCount (walkOf F)) (walkOf F) i ≡ gone
     unfolding statusFrom glues
@@ -128,7 +124,7 @@ module _ (F : Func) (ok : Shaped F) where
       by-point : (p : CfgPoint) → at i .0 ≡ p → Ended F p → statusAt (useCount (walkOf F)) (walkOf F) i ≡ gone
       by-point (regionEntry r) e en = absurd en
       by-point (regionExit r) e en = case-gone r en i h e
-      by-point (CfgPoint.nodeEntry n) e en = absurd en
+      by-point (nodeEntry n) e en = absurd en
       by-point (nodeExit n) e en = zero-gone i (ap c e ∙ count-out F ok n en)
 
   -- in the text's words: the exit of a case whose last node is an exit
@@ -143,4 +139,4 @@ module _ (F : Func) (ok : Shaped F) where
   case-exit-gone n c e j en i h q = case-gone c (case-ends F ok n e j en (exit-visited (at i) _ (chain-at (Step F) T none (walk-steps F ok) i h) c q .1)) i h q
 
   pub stands-term : (i : ℕ) → i < length (walkOf F) → ¬ (statusAt (useCount (walkOf F)) (walkOf F) i ≡ gone) → TermOk (walkOf F) (getD (walkOf F) i noPair .1 .term)
-  stands-term i h n = elim (all-in _ T (terms F ok) (at i) (in-getD T i noPair h)) [ inl lo ↦ absurd (n (ended-gone i h (let-off-ended F (at i .0) lo))) | inr f ↦ f ]
+  stands-term i h n = elim (all-in _ T (terms F ok) (at i) (in-getD T i noPair h)) [ inl lo ↦ absurd (n (ended-gone i h (case-ended F (at i .0) lo))) | inr f ↦ f ]

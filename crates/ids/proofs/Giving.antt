@@ -16,13 +16,13 @@ use Rattle.lifting.specs.Lists.{tabulate}
 use Rattle.lifting.specs.Limits.{scratchWords}
 use Rattle.lifting.specs.Ast.{Func, Op, Value, call, dataInstOutput, nodeOutput, regionInput}
 use Rattle.lifting.specs.Parts.{nodeOf, opOf, outsOf, regionOf}
-use Rattle.lifting.specs.Points.{BlockLifting, CfgPoint, Table, points}
+use Rattle.lifting.specs.Points.{CfgPoint}
 use Rattle.lifting.specs.Walk.{walkOf}
 use Rattle.lifting.specs.Ids.{Name, resultOf, value}
 use Rattle.func.specs.Decode.{funcOf}
 use Rattle.func.specs.Tables.{Tables}
-use Rattle.runs.specs.Members.{NoDup, length-tabulate}
-use Rattle.runs.specs.Tests.{once-by}
+use Rattle.runs.specs.Members.{length-tabulate}
+use Rattle.runs.specs.Tour.{same-position}
 use Rattle.flat.specs.Flat.{Status, goes, gone, noPair, starts, upTo}
 use Rattle.flat.specs.Laws.{each-once}
 use Rattle.points.specs.Numbers.{number-low, point-back, pointNumber, pointOf, pointsAt}
@@ -152,10 +152,6 @@ op-none F o e = go (opOf F o .type) (ltb-false 0 (opOf F o .type) e)
 
 -- ---- labels
 
-map-points : (T : Table) → map (λ (x : CfgPoint × BlockLifting). x .0) T ≡ points T
-map-points [] = refl
-map-points (x ∷ T) = ap (λ (l : List CfgPoint). x .0 ∷ l) (map-points T)
-
 module _ {w u : List ℕ} {m : ℕ} (k : Visited w u m) (i : ℕ) (h : i < m) where
   abbrev F : Func
   F = funcOf w
@@ -168,8 +164,7 @@ module _ {w u : List ℕ} {m : ℕ} (k : Visited w u m) (i : ℕ) (h : i < m) wh
       let l : j < m = omega (arith, r .1) in
       let same : pointAt F j ≡ pointAt F i =
       sym (point-back (pointAt F j) (point-small k j l)) ∙ ap pointOf (ap pointNumber (sym (r .2)) ∙ q) ∙ point-back (pointAt F i) (point-small k i h) in
-      let once : NoDup (map (λ (x : CfgPoint × BlockLifting). x .0) (walkOf F)) = subst NoDup (sym (map-points (walkOf F))) (each-once F (k .walkable .shaped)) in
-      let z = once-by (λ (x : CfgPoint × BlockLifting). x .0) noPair (walkOf F) once j i (omega (arith, k .count)) (omega (arith, k .count)) same in
+      let z = same-position noPair (walkOf F) (each-once F (k .walkable .shaped)) j i (omega (arith, k .count)) (omega (arith, k .count)) same in
       omega (arith, r .1, z)
 
   by-word : (s : Status) → stands F i ≡ s → statusWord s (pointAt F i) ≡ pointNumber (pointAt F i) + 1 → s ≡ starts

@@ -14,7 +14,7 @@ use Rattle.lifting.specs.Parts.{regionOf, nodeOf, childrenOf, hasBody}
 use Rattle.lifting.specs.Order.{roots}
 use Rattle.lifting.specs.Points.{CfgPoint, regionEntry, regionExit, nodeEntry, nodeExit, eqPoint, BlockLifting, Table, points, nothingHere, plain, blockOr, blockAt}
 use Rattle.lifting.specs.Walk.{Place, top, inNode, nextPoint, entryBlock, exitBlock, inBlock, outBlock, walkKids, walkNode, walkNodes, walkRegion, walkRoots, walkOf}
-use Rattle.lifting.specs.Absorb.{useCount, soleTarget, emptied, joined, fuse, Absorbing, ifNoPhis, tryTarget, absorbAt, absorbAll, absorb, keepIf, keep, kept}
+use Rattle.lifting.specs.Absorb.{useCount, soleTarget, emptied, joined, refit, fuse, Absorbing, ifNoPhis, tryTarget, absorbAt, absorbAll, absorb, keepIf, keep, kept}
 use Rattle.runs.specs.Members.{In, here, there, All, all-append, all-in}
 use Rattle.runs.specs.Tests.{find-in}
 
@@ -89,6 +89,11 @@ module _ (I : Table → Type 0) (fuses : (b t : CfgPoint) (T : Table) → I T �
   pub after-absorb : (T : Table) → I T → I (absorb T .table)
   after-absorb T h = after-all (λ s. I (s .table)) (λ b t s i e u k. fuses b t (s .table) i) T h
 
+-- of each entry
+pub all-fuse : (P : CfgPoint × BlockLifting → Type 0) (b t : CfgPoint) (c : BlockLifting) → ((x : CfgPoint × BlockLifting) → P x → P (x .0, refit b t c (x .0) (x .1))) → (T : Table) → All P T → All P (fuse b t c T)
+all-fuse P b t c f [] h = tt
+all-fuse P b t c f (x ∷ T) h = (f x (h .0), all-fuse P b t c f T (h .1))
+
 -- each block
 abbrev pub Each : (BlockLifting → Type 0) → Table → Type 0
 Each P = All (λ (x : CfgPoint × BlockLifting). P (x .1))
@@ -102,13 +107,12 @@ each-at P bare T h p = by-case (find eqPoint p T) refl
 
 module _ (P : BlockLifting → Type 0) (bare : P (plain nothingHere)) (empties : (b : BlockLifting) → P b → P (emptied b)) (joins : (b c : BlockLifting) → P b → P c → P (joined b c)) where
   pub each-fuse : (b t : CfgPoint) (c : BlockLifting) → P c → (T : Table) → Each P T → Each P (fuse b t c T)
-  each-fuse b t c hc [] h = tt
-  each-fuse b t c hc (x ∷ T) h = (by-case (eqPoint (x .0) t) (eqPoint (x .0) b), each-fuse b t c hc T (h .1))
+  each-fuse b t c hc = all-fuse (λ x. P (x .1)) b t c (λ x h. by-case (x .1) h (eqPoint (x .0) t) (eqPoint (x .0) b))
     where
-      by-case : {A B : Type 0} (d : Dec A) (g : Dec B) → P (choose d (emptied (x .1)) (choose g (joined (x .1) c) (x .1)))
-      by-case (yes e) g = empties (x .1) (h .0)
-      by-case (no n) (yes e) = joins (x .1) c (h .0) hc
-      by-case (no n) (no m) = h .0
+      by-case : {A B : Type 0} (e : BlockLifting) → P e → (d : Dec A) (g : Dec B) → P (choose d (emptied e) (choose g (joined e c) e))
+      by-case e h (yes y) g = empties e h
+      by-case e h (no n) (yes y) = joins e c h hc
+      by-case e h (no n) (no m) = h
 
   pub each-absorbed : (T : Table) → Each P T → Each P (absorb T .table)
   each-absorbed = after-absorb (Each P) (λ b t T h. each-fuse b t (blockAt T t) (each-at P bare T h t) T h)

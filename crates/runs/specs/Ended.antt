@@ -1,5 +1,5 @@
--- Points that no run comes to, since an exit stands right before them (W2): a node's exit where the node is an exit, and the exit of a case whose
--- last node is one. Such a case need not have its select's outputs. Nothing in the walk leads to the first kind, and only a point of the
+-- Two kinds of points that no run comes to, since an exit stands right before them (W2): a node's exit where the node is an exit, and the exit of
+-- a case whose last node is one. Such a case need not have its select's outputs. Nothing in the walk leads to the first kind, and only a point of the
 -- first kind to one of the second. Assumes nothing.
 use mathlib.Core.Path.{_≡_, refl, sym, ap, _∙_, subst}
 use mathlib.Core.Logic.{inl, inr}
@@ -23,7 +23,7 @@ lastOf [] = 0
 lastOf (n ∷ []) = n
 lastOf (n ∷ m ∷ l) = lastOf (m ∷ l)
 
-pub last-of : {l s : List ℕ} → Suffix l s → (m : ℕ) (k : List ℕ) → s ≡ m ∷ k → lastOf l ≡ lastOf s
+last-of : {l s : List ℕ} → Suffix l s → (m : ℕ) (k : List ℕ) → s ≡ m ∷ k → lastOf l ≡ lastOf s
 last-of whole m k e = refl
 last-of (next {x} {s} sf) m k e = last-of sf x s refl ∙ more s e
   where
@@ -62,17 +62,17 @@ module _ (F : Func) where
   Ended (nodeExit n) = isExit (nodeOf F n) ≡ true
 
   -- The only points whose way out may take too few values: the second kind.
-  abbrev pub LetOff : CfgPoint → Type 0
-  LetOff (regionEntry r) = ⊥
-  LetOff (regionExit r) = CaseEnds r
-  LetOff (nodeEntry n) = ⊥
-  LetOff (nodeExit n) = ⊥
+  abbrev pub EndedCase : CfgPoint → Type 0
+  EndedCase (regionEntry r) = ⊥
+  EndedCase (regionExit r) = CaseEnds r
+  EndedCase (nodeEntry n) = ⊥
+  EndedCase (nodeExit n) = ⊥
 
-  pub let-off-ended : (p : CfgPoint) → LetOff p → Ended p
-  let-off-ended (regionEntry r) h = h
-  let-off-ended (regionExit r) h = h
-  let-off-ended (nodeEntry n) h = h
-  let-off-ended (nodeExit n) h = absurd h
+  pub case-ended : (p : CfgPoint) → EndedCase p → Ended p
+  case-ended (regionEntry r) h = h
+  case-ended (regionExit r) h = h
+  case-ended (nodeEntry n) h = h
+  case-ended (nodeExit n) h = absurd h
 
   -- what leads to such a point is the exit of the last node before it
   abbrev pub Behind : CfgPoint × BlockLifting → Type 0

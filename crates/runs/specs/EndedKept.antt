@@ -1,5 +1,5 @@
--- No point that no run comes to is kept (W2). The exit of an exit node has use count 0. It alone leads to the exit of its case, which has use count
--- 1 and no phis, so it absorbs it. What is kept therefore takes as many values along each edge as the target has phis. Assumes nothing.
+-- Neither the exit of an exit node nor the exit of a case that ends in one is kept (W2). The first has use count 0. It alone leads to the second,
+-- which has use count 1 and no phis, so it absorbs it. What is kept therefore takes as many values along each edge as the target has phis. Assumes nothing.
 --     ended-dropped      the count of such a point is 0 after all absorptions
 --     kept-term          the way out of a kept block
 use mathlib.Core.Path.{_≡_, refl, sym, ap, _∙_, subst}
@@ -14,17 +14,17 @@ use Rattle.lifting.specs.Lists.{choose, choose-no, choose-yes, find}
 use Rattle.lifting.specs.Ast.{Decl, Func, Node, SelectionKind, Value, select}
 use Rattle.lifting.specs.Parts.{childrenOf, nodeOf, regionOf}
 use Rattle.lifting.specs.Counts.{endsInExit}
-use Rattle.lifting.specs.Points.{BlockLifting, CfgPoint, Table, Terminator, blockAt, blockOr, eqPoint, nodeExit, nothingHere, plain, points, regionEntry, regionExit, straight}
+use Rattle.lifting.specs.Points.{BlockLifting, CfgPoint, Table, Terminator, blockAt, blockOr, eqPoint, nodeEntry, nodeExit, nothingHere, plain, points, regionEntry, regionExit, straight}
 use Rattle.lifting.specs.Walk.{Place, walkOf}
-use Rattle.lifting.specs.Absorb.{Absorbing, absorb, absorbAll, absorbAt, countIn, emptied, firstUse, fuse, ifNoPhis, joined, kept, labels, one, refit, soleTarget, tryTarget, useCount, uses}
+use Rattle.lifting.specs.Absorb.{Absorbing, absorb, absorbAll, absorbAt, countIn, emptied, firstUse, ifNoPhis, joined, kept, labels, one, soleTarget, tryTarget, useCount, uses}
 use Rattle.runs.specs.Members.{All, In, NoDup, all-from, all-in, here, in-cases, in-nil, there}
 use Rattle.runs.specs.Tests.{find-in}
 use Rattle.runs.specs.Places.{Visited, at-body, by-ctrl, in-case, in-loop, whole}
 use Rattle.runs.specs.AbsorbCount.{block-keys, block-other, sole-straight, usesAt}
-use Rattle.runs.specs.Each.{after-all, after-turn, after-turns, taken}
+use Rattle.runs.specs.Each.{after-all, after-turn, after-turns, all-fuse, taken}
 use Rattle.runs.specs.Tour.{in-points}
 use Rattle.runs.specs.Pairs.{counted-in}
-use Rattle.runs.specs.Ended.{Behind, CaseEnds, Ended, isSelect, last-exit, lastOf, let-off-ended, suffix-last}
+use Rattle.runs.specs.Ended.{Behind, CaseEnds, Ended, isSelect, last-exit, lastOf, case-ended, suffix-last}
 use Rattle.runs.specs.Terms.{TermOk, nothing-ok}
 use Rattle.runs.specs.KeptTerms.{in-keep}
 use Rattle.runs.specs.Shaped.{Shaped, behind, laid, terms, visited-out, walk-first, walk-once}
@@ -32,10 +32,7 @@ use Rattle.runs.specs.Shaped.{Shaped, behind, laid, terms, visited-out, 
 -- ---- uses
 
 unused : (q : CfgPoint) (l : List CfgPoint) → ¬ (In q l) → countIn q l ≡ 0
-unused q l h = by-count (countIn q l) refl
-  where
-    by-count : (n : ℕ) → countIn q l ≡ n → n ≡ 0
-    by-count n e = elim (ℕ-discrete n 0) [ yes z ↦ z | no z ↦ absurd (h (counted-in q l (omega arith))) ]
+unused q l h = elim (ℕ-discrete (countIn q l) 0) [ yes z ↦ z | no z ↦ absurd (h (counted-in q l (omega arith))) ]
 
 never-used : (T : Table) (q : CfgPoint) → ((x : CfgPoint × BlockLifting) → In x T → ¬ (In q (labels (x .1 .term)))) → uses T q ≡ 0
 never-used [] q h = refl
@@ -53,18 +50,18 @@ used-by (x ∷ T) p q n h = by-point (eqPoint p (x .0)) (used-by T p q (n .1) (�
 
 -- ---- one absorption that is sure to come
 
+stays-low : (q r : CfgPoint) (n : ℕ) → n ≡ 0 → choose (eqPoint q r) 0 n ≡ 0
+stays-low q r n e = by-point (eqPoint q r)
+  where
+    by-point : (d : Dec (q ≡ r)) → choose d 0 n ≡ 0
+    by-point (yes z) = refl
+    by-point (no z) = e
+
 module _ (p t : CfgPoint) where
   -- p is used by nothing, and t is absorbed or still p's to absorb
   record Due (s : Absorbing) : Type 0 where
     free : s .counts p ≡ 0
     way : (s .counts t ≡ 0) ⊎ ((s .counts t ≡ 1) × (blockAt (s .table) p .term ≡ straight t) × (blockAt (s .table) t .keys ≡ []))
-
-  stays-low : (q r : CfgPoint) (n : ℕ) → n ≡ 0 → choose (eqPoint q r) 0 n ≡ 0
-  stays-low q r n e = by-point (eqPoint q r)
-    where
-      by-point : (d : Dec (q ≡ r)) → choose d 0 n ≡ 0
-      by-point (yes z) = refl
-      by-point (no z) = e
 
   due-taken : (b r : CfgPoint) (s : Absorbing) → Due s → soleTarget (blockAt (s .table) b .term) ≡ some r → s .counts r ≡ 1 → blockAt (s .table) r .keys ≡ [] → Due (taken b r s)
   due-taken b r s d e u ks = record { free = stays-low p r (s .counts p) (d .free); way = by-way (d .way) }
@@ -120,17 +117,13 @@ module _ (p t : CfgPoint) where
     | inr i ↦ gone-stays b (absorbAll l s) (all-turns l s d i)
   ]
 
-  pub absorbed-away : (T : Table) → useCount T p ≡ 0 → useCount T t ≡ 1 → blockAt T p .term ≡ straight t → blockAt T t .keys ≡ [] → In p (points T) → absorb T .counts t ≡ 0
+  absorbed-away : (T : Table) → useCount T p ≡ 0 → useCount T t ≡ 1 → blockAt T p .term ≡ straight t → blockAt T t .keys ≡ [] → In p (points T) → absorb T .counts t ≡ 0
   unfolding absorb Gone
   absorbed-away T z u l k h = all-turns (points T) (record { table = T; counts = useCount T }) (record { free = z; way = inr (u, l, k) }) h
 
 -- what has count 0 keeps it
-pub stays-dropped : (T : Table) (q : CfgPoint) → useCount T q ≡ 0 → absorb T .counts q ≡ 0
-stays-dropped T q z = after-all (λ s. s .counts q ≡ 0) (λ b r s h e u k. stays-low q q q r (s .counts q) h) T z
-
-all-fuse : (P : CfgPoint × BlockLifting → Type 0) (b t : CfgPoint) (c : BlockLifting) → ((x : CfgPoint × BlockLifting) → P x → P (x .0, refit b t c (x .0) (x .1))) → (T : Table) → All P T → All P (fuse b t c T)
-all-fuse P b t c f [] h = tt
-all-fuse P b t c f (x ∷ T) h = (f x (h .0), all-fuse P b t c f T (h .1))
+stays-dropped : (T : Table) (q : CfgPoint) → useCount T q ≡ 0 → absorb T .counts q ≡ 0
+stays-dropped T q z = after-all (λ s. s .counts q ≡ 0) (λ b r s h e u k. stays-low q r (s .counts q) h) T z
 
 module _ (F : Func) (ok : Shaped F) where
   abbrev T : Table
@@ -183,7 +176,7 @@ module _ (F : Func) (ok : Shaped F) where
   pub ended-dropped : (q : CfgPoint) → Ended F q → absorb (walkOf F) .counts q ≡ 0
   ended-dropped (regionEntry r) en = absurd en
   ended-dropped (regionExit c) en = case-dropped c en
-  ended-dropped (CfgPoint.nodeEntry n) en = absurd en
+  ended-dropped (nodeEntry n) en = absurd en
   ended-dropped (nodeExit n) en = stays-dropped T (nodeExit n) (count-out n en)
 
   -- ---- what stays so through absorption: a way out without enough values is that of such a point, and only such points lead to one
@@ -223,7 +216,7 @@ module _ (F : Func) (ok : Shaped F) where
 
   sorted : All Sorted (absorb (walkOf F) .table)
   sorted = after-all (λ s. All Sorted (s .table)) sorted-taken T (all-from Sorted T (λ x i. (
-    elim (all-in _ T (terms F ok) x i) [ inl lo ↦ inl (let-off-ended F (x .0) lo) | inr f ↦ inr f ],
+    elim (all-in _ T (terms F ok) x i) [ inl lo ↦ inl (case-ended F (x .0) lo) | inr f ↦ inr f ],
     λ q j en.
         let w = all-in (Behind F) T (behind F ok) x i q j en in
         subst (Ended F) (sym (w .2)) (last-exit F (regionOf F (w .0) .nodes) (subst (Ended F) (w .1) en .ends)),

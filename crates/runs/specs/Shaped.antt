@@ -26,7 +26,7 @@ use Rattle.runs.specs.TourOnce.{roots-nodup}
 use Rattle.runs.specs.TourLaid.{Roots, covers, here-exit, here-out, walk-laid, walk-tidy}
 use Rattle.runs.specs.Order.{roots-ok, roots-visited}
 use Rattle.runs.specs.Forest.{tree-of}
-use Rattle.runs.specs.Ended.{Behind, LetOff, walk-behind}
+use Rattle.runs.specs.Ended.{Behind, EndedCase, walk-behind}
 use Rattle.runs.specs.Terms.{TermLeads, TermOk, walk-terms}
 
 pub record Shaped (F : Func) : Type 0 where
@@ -87,8 +87,8 @@ module _ (F : Func) (ok : Shaped F) where
   pub tidy : Tidy (walkOf F)
   tidy = subst Tidy walk-is (walk-tidy F depth tree (roots F) in-order (λ n b c is e. ok .fitting .loop-ins n e))
 
-  walked : All (λ (x : CfgPoint × BlockLifting). TermLeads (walkOf F) (x .1 .term) × (LetOff F (x .0) ⊎ TermOk (walkOf F) (x .1 .term))) (walkOf F)
-  walked = subst (λ (T : Table). All (λ (x : CfgPoint × BlockLifting). TermLeads T (x .1 .term) × (LetOff F (x .0) ⊎ TermOk T (x .1 .term))) T) walk-is
+  walked : All (λ (x : CfgPoint × BlockLifting). TermLeads (walkOf F) (x .1 .term) × (EndedCase F (x .0) ⊎ TermOk (walkOf F) (x .1 .term))) (walkOf F)
+  walked = subst (λ (T : Table). All (λ (x : CfgPoint × BlockLifting). TermLeads T (x .1 .term) × (EndedCase F (x .0) ⊎ TermOk T (x .1 .term))) T) walk-is
       (walk-terms F depth tree (roots F) in-order (ok .targets) (ok .fitting) (roots-visited F (ok .targets)))
 
   -- every way out leads to visited points
@@ -96,9 +96,9 @@ module _ (F : Func) (ok : Shaped F) where
   leads = all-left _ _ (walkOf F) walked
 
   -- and takes as many values there as the point has phis, but for a case that ends in an exit
-  pub terms : All (λ (x : CfgPoint × BlockLifting). LetOff F (x .0) ⊎ TermOk (walkOf F) (x .1 .term)) (walkOf F)
+  pub terms : All (λ (x : CfgPoint × BlockLifting). EndedCase F (x .0) ⊎ TermOk (walkOf F) (x .1 .term)) (walkOf F)
   terms = all-right _ _ (walkOf F) walked
 
-  -- what leads to a point that no run comes to
+  -- what leads to the exit of an exit node or of a case that ends in one
   pub behind : All (Behind F) (walkOf F)
   behind = subst (All (Behind F)) walk-is (walk-behind F (ok .forest .child-once) depth (roots F) (roots-visited F (ok .targets)))

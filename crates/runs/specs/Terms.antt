@@ -1,4 +1,5 @@
--- Every terminator of the walk is as the emitter needs it, and stays so through absorption.
+-- Every way out of the walk leads to visited points, and but for that of a case that ends in an exit it takes as many values as the target has
+-- phis. Assumes nothing.
 use mathlib.Core.Path.{_≡_, refl, sym, ap, _∙_, subst}
 use mathlib.Core.Logic.{_⊎_, inl, inr}
 use mathlib.Core.Bool.{Bool, true, false}
@@ -16,7 +17,7 @@ use Rattle.runs.specs.Members.{All, In, here, in-cases, in-nil, length-t
 use Rattle.runs.specs.Accepted.{Fitting, FreeKind, OutsFit, Targets, WayFit}
 use Rattle.runs.specs.Places.{Suffix, Visited, at-body, by-ctrl, in-case, in-loop, next, whole}
 use Rattle.runs.specs.Visits.{every-visited}
-use Rattle.runs.specs.Ended.{LetOff, isSelect}
+use Rattle.runs.specs.Ended.{EndedCase, isSelect}
 use Rattle.runs.specs.Structure.{find-entry}
 use Rattle.runs.specs.Tour.{Tree, find-unique}
 use Rattle.runs.specs.TourLaid.{Roots, covers, here-entry, here-exit, here-in, here-out, unique}
@@ -79,7 +80,7 @@ module _ (F : Func) (depth : ℕ) (tr : Tree F depth) (rs : List ℕ) (ok : Root
 
   -- the way out of a point: it leads on, with enough values but for a case that ends in an exit
   abbrev TermFine : CfgPoint → Terminator → Type 0
-  TermFine p t = TermLeads T t × (LetOff F p ⊎ TermOk T t)
+  TermFine p t = TermLeads T t × (EndedCase F p ⊎ TermOk T t)
 
   whole-fine : (p : CfgPoint) {t : Terminator} → TermOk T t → TermFine p t
   whole-fine p h = (ok-leads h, inr h)
@@ -207,6 +208,6 @@ module _ (F : Func) (depth : ℕ) (tr : Tree F depth) (rs : List ℕ) (ok : Root
   exit-ok r p (in-loop {r = s} {n} {b} {p = q} {ns} v sf e) = child-ok s n b q ns (nodeOf F n) refl (subst (λ (d : Node). In b (childrenOf d)) (sym e) here) v sf
 
   -- every terminator of the walk, where the roots are what a run can come to
-  pub walk-terms : ((r : ℕ) → In r rs → Visited F r top) → All (λ (x : CfgPoint × BlockLifting). TermLeads T (x .1 .term) × (LetOff F (x .0) ⊎ TermOk T (x .1 .term))) T
+  pub walk-terms : ((r : ℕ) → In r rs → Visited F r top) → All (λ (x : CfgPoint × BlockLifting). TermLeads T (x .1 .term) × (EndedCase F (x .0) ⊎ TermOk T (x .1 .term))) T
   walk-terms = every-visited F (λ (x : CfgPoint × BlockLifting). TermFine (x .0) (x .1 .term)) (λ r p v. whole-fine (regionEntry r) (next-ok r p (regionOf F r .nodes) v whole)) exit-ok
       (λ r n p ns v sf. whole-fine (nodeEntry n) (in-ok r n p ns (nodeOf F n) refl v sf)) (λ r n p ns v sf. whole-fine (nodeExit n) (next-ok r p ns v (next sf))) depth rs

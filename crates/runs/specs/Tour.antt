@@ -1,15 +1,17 @@
 -- The walk: each region's entry, its nodes, its exit; each node's entry, its regions in turn, its exit.
 use mathlib.Core.Path.{_≡_, refl, sym, ap, _∙_, subst}
 use mathlib.Core.Logic.{_⊎_, inl, inr}
-use mathlib.Core.List.{List, [], _∷_, _++_}
+use mathlib.Core.List.{List, [], _∷_, _++_, map}
 use mathlib.Core.Option.{none, some}
 use Prim.Native.Nat.{ℕ, _<_}
 use native.Mathlib.Omega.{arith}
+use lib.ListN.{getD, length}
 use Rattle.lifting.specs.Lists.{choose, choose-no, find}
 use Rattle.lifting.specs.Ast.{Func}
 use Rattle.lifting.specs.Parts.{childrenOf, nodeOf, regionOf}
 use Rattle.lifting.specs.Points.{BlockLifting, CfgPoint, Table, eqPoint, points}
 use Rattle.runs.specs.Members.{In, NoDup, here, in-cases, in-nil, there}
+use Rattle.runs.specs.Tests.{once-by}
 use Rattle.runs.specs.AbsorbCount.{Unique}
 
 pub points-append : (T U : Table) → points (T ++ U) ≡ points T ++ points U
@@ -23,6 +25,14 @@ absent-none (x ∷ T) p h = choose-no (eqPoint p (x .0)) (some (x .1)) (find eqP
 pub unique-of : (T : Table) → NoDup (points T) → Unique T
 unique-of [] h = tt
 unique-of (x ∷ T) h = (absent-none T (x .0) (h .0), unique-of T (h .1))
+
+-- two positions of one point are one
+points-map : (T : Table) → points T ≡ map (λ (x : CfgPoint × BlockLifting). x .0) T
+points-map [] = refl
+points-map (x ∷ T) = ap (λ (l : List CfgPoint). x .0 ∷ l) (points-map T)
+
+pub same-position : (d : CfgPoint × BlockLifting) (T : Table) → NoDup (points T) → (n k : ℕ) → n < length T → k < length T → getD T n d .0 ≡ getD T k d .0 → n ≡ k
+same-position d T u = once-by (λ (x : CfgPoint × BlockLifting). x .0) d T (subst NoDup (points-map T) u)
 
 -- an entry of a table without repeats is what is found
 pub in-points : (T : Table) (x : CfgPoint × BlockLifting) → In x T → In (x .0) (points T)

@@ -31,7 +31,7 @@ use Rattle.flat.specs.ListFlat.{pairing, writing}
 use Rattle.flat.specs.Totals.{total, total-add}
 use Rattle.flat.specs.Laws
 use Rattle.sizes.specs.Sums.{length-gather, total-append, total-le, total-map, total-ones, total-scale, total-swap, total-upTo}
-use Rattle.sizes.specs.Weights.{blockWeight, carried, defaultsAt, endWeight, flow, head, ifSome, imm, immTotal, initsOf, mergeWeight, opWeight, opsWeight, sent}
+use Rattle.sizes.specs.Weights.{blockWeight, carried, defaultsAt, endWeight, flow, head, ifAny, imm, immTotal, initsOf, mergeWeight, opWeight, opsWeight, sent}
 
 -- A pass over kept blocks, where each end weighs at most e if P holds of its way out.
 module _ {A : Type 0} (wt : A → ℕ) (m : Pass A) (P : Terminator → Type 0) (e : Terminator → ℕ) (ends : (h : CfgPoint) (t : Terminator) → P t → total wt (m .end h t) ≤ e t) where
@@ -139,26 +139,26 @@ module _ (F : Func) (ok : Shaped F) (first : ℕ) where
         )
 
     -- the pairs of phi j: two words for each way out that sends more than j values here
-    pairs-weight : (j : ℕ) → j < length (x .1 .keys) → length (pairs F first T K K q j) ≤ 2 * total (λ y. ifSome (sentTo q y - j) 1) T
+    pairs-weight : (j : ℕ) → j < length (x .1 .keys) → length (pairs F first T K K q j) ≤ 2 * total (λ y. ifAny (sentTo q y - j) 1) T
     pairs-weight j low = omega (
       arith,
       total-ones (pairs F first T K K q j),
       ap (total one) (Laws.pairs-are F ok first q j),
       pass-weight one (pairing F first T K q j) (TermOk T) each ends (useCount T) T (Laws.stands-fit F ok),
-      total-le (partWeight one (pairing F first T K q j) (TermOk T) each ends) (λ y. 2 * ifSome (sentTo q y - j) 1) T (λ y i. omega (arith, ap (total one) (gather-none (y .1 .ops)))),
-      total-scale 2 (λ y. ifSome (sentTo q y - j) 1) T,
+      total-le (partWeight one (pairing F first T K q j) (TermOk T) each ends) (λ y. 2 * ifAny (sentTo q y - j) 1) T (λ y i. omega (arith, ap (total one) (gather-none (y .1 .ops)))),
+      total-scale 2 (λ y. ifAny (sentTo q y - j) 1) T,
     )
       where
         one : ℕ → ℕ
         one n = 1
 
         each : Terminator → ℕ
-        each t = 2 * ifSome (carried F t q - j) 1
+        each t = 2 * ifAny (carried F t q - j) 1
 
-        more : (n : ℕ) → j < n → 2 ≤ 2 * ifSome (n - j) 1
+        more : (n : ℕ) → j < n → 2 ≤ 2 * ifAny (n - j) 1
         more n l = by-rest (n - j) refl
           where
-            by-rest : (k : ℕ) → n - j ≡ k → 2 ≤ 2 * ifSome k 1
+            by-rest : (k : ℕ) → n - j ≡ k → 2 ≤ 2 * ifAny k 1
             by-rest zero e = absurd (omega arith)
             by-rest (suc k) e = omega arith
 
@@ -168,7 +168,7 @@ module _ (F : Func) (ok : Shaped F) (first : ℕ) where
             ws : List ℕ
             ws = idOf F first T K (getD (edgeOf K t q) j (const 0)) ∷ labelOf F first T K h ∷ []
 
-            by-count : (n : ℕ) → countIn q (t .targets) ≡ n → total one (ifUsed n ws) ≤ 2 * ifSome (ifSome n (length (valsOr (find eqPoint q (t .vals)) (defaultsAt F q))) - j) 1
+            by-count : (n : ℕ) → countIn q (t .targets) ≡ n → total one (ifUsed n ws) ≤ 2 * ifAny (ifAny n (length (valsOr (find eqPoint q (t .vals)) (defaultsAt F q))) - j) 1
             by-count zero e = omega arith
             by-count (suc n) e = more (length (valsOr (find eqPoint q (t .vals)) (defaultsAt F q))) (omega (arith, enough t tk (omega arith)))
 
@@ -181,14 +181,14 @@ module _ (F : Func) (ok : Shaped F) (first : ℕ) where
       length-inst (phiInst F first T K q k (getD ds j (record { attrs = 0; type = 0 })) j),
       pairs-weight j (omega arith),
       phis-weight ks ds (suc j) (omega arith),
-      total-add (λ y. ifSome (sentTo q y - j) 1) (λ y. sentTo q y - suc j) T,
-      total-le (λ y. ifSome (sentTo q y - j) 1 + (sentTo q y - suc j)) (λ y. sentTo q y - j) T (λ y i. one-more (sentTo q y)),
+      total-add (λ y. ifAny (sentTo q y - j) 1) (λ y. sentTo q y - suc j) T,
+      total-le (λ y. ifAny (sentTo q y - j) 1 + (sentTo q y - suc j)) (λ y. sentTo q y - j) T (λ y i. one-more (sentTo q y)),
     )
       where
-        one-more : (n : ℕ) → ifSome (n - j) 1 + (n - suc j) ≤ n - j
+        one-more : (n : ℕ) → ifAny (n - j) 1 + (n - suc j) ≤ n - j
         one-more n = by-rest (n - j) refl
           where
-            by-rest : (k : ℕ) → n - j ≡ k → ifSome k 1 + (n - suc j) ≤ k
+            by-rest : (k : ℕ) → n - j ≡ k → ifAny k 1 + (n - suc j) ≤ k
             by-rest zero e = omega arith
             by-rest (suc k) e = omega arith
 

@@ -22,7 +22,7 @@ use Rattle.flat.specs.Chain.{Chain, firstOf}
 use Rattle.flat.specs.Steps.{Step, placed, step-entry, step-exit, step-in, step-out, walk-steps}
 use Rattle.flat.specs.Totals.{total, total-once}
 use Rattle.sizes.specs.Sums.{total-find, total-keys, total-le, total-map, weighed}
-use Rattle.sizes.specs.Weights.{carried, ctrlWeight, defaultsAt, endWeight, flow, head, ifSome, initsOf, nodeWeight, opsWeight, pointWeight, sent, weightAt}
+use Rattle.sizes.specs.Weights.{carried, ctrlWeight, defaultsAt, endWeight, flow, head, ifAny, initsOf, nodeWeight, opsWeight, pointWeight, sent, weightAt}
 
 -- Sums along a chain: where f of each entry is at most g of it and a of the next point, all f are at most all g and all a.
 module _ (P : CfgPoint × BlockLifting → Option CfgPoint → Type 0) (f : CfgPoint × BlockLifting → ℕ) (g a : CfgPoint → ℕ) where
@@ -45,12 +45,12 @@ module _ (p q : CfgPoint) where
   elsewhere [] ds m = refl
   elsewhere (v ∷ vs) ds m = ap (λ (o : Option (List Value)). valsOr o ds) (choose-no (eqPoint p q) (some (v ∷ vs)) none m)
 
--- a weight that counts only where a way leads
-if-low : (c n m : ℕ) → n ≤ m → ifSome c n ≤ m
+-- a weight that counts only where there is any
+if-low : (c n m : ℕ) → n ≤ m → ifAny c n ≤ m
 if-low zero n m h = omega arith
 if-low (suc c) n m h = h
 
-if-led : (c n m : ℕ) → (0 < c → n ≤ m) → ifSome c n ≤ m
+if-led : (c n m : ℕ) → (0 < c → n ≤ m) → ifAny c n ≤ m
 if-led zero n m h = omega arith
 if-led (suc c) n m h = h (omega arith)
 

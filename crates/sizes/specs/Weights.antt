@@ -58,10 +58,10 @@ mergeWeight (loopMerge a b) = head + imm + 2
 abbrev pub endWeight : Terminator → ℕ
 endWeight t = mergeWeight (t .merge) + (imm * immTotal (ctrlInsts (t .kind)) + (length (t .ins) + length (t .targets)))
 
--- a weight that counts only where something is
-abbrev pub ifSome : ℕ → ℕ → ℕ
-ifSome zero n = 0
-ifSome (suc k) n = n
+-- a weight that counts only where there is any
+abbrev pub ifAny : ℕ → ℕ → ℕ
+ifAny zero n = 0
+ifAny (suc k) n = n
 
 -- a ctrl line: its values move along edges or are inputs
 abbrev pub movedBy : ControlInst → ℕ
@@ -105,7 +105,7 @@ module _ (F : Func) where
 
   -- the values that a way out sends to p, if it leads there; and all that it sends
   abbrev pub carried : Terminator → CfgPoint → ℕ
-  carried t p = ifSome (countIn p (t .targets)) (length (valsOr (find eqPoint p (t .vals)) (defaultsAt p)))
+  carried t p = ifAny (countIn p (t .targets)) (length (valsOr (find eqPoint p (t .vals)) (defaultsAt p)))
 
   abbrev pub flow : Terminator → ℕ
   flow t = total (λ x. carried t (x .0)) (walkOf F)
