@@ -332,9 +332,7 @@ impl Maker<'_> {
             self.func.nodes.push(exit);
             return true;
         }
-        let last = self.func.regions[case as usize].nodes.last();
-        let is_exit = |node: &u32| matches!(self.func.nodes[*node as usize], Node::Exit { .. });
-        last.is_some_and(is_exit) && self.rng.chance(50)
+        self.func.is_ended(case) && self.rng.chance(50)
     }
 
     fn selection(&mut self) -> Selection {

@@ -1,4 +1,6 @@
-//! A small generator of numbers (SplitMix64), the same on every machine.
+//! A small generator of numbers, the same on every machine.
+
+use refer::mix::{STEP, mixed};
 
 pub struct Rng(u64);
 
@@ -8,11 +10,9 @@ impl Rng {
     }
 
     pub fn draw(&mut self) -> u64 {
-        self.0 = self.0.wrapping_add(0x9e37_79b9_7f4a_7c15);
-        let mut z = self.0;
-        z = (z ^ (z >> 30)).wrapping_mul(0xbf58_476d_1ce4_e5b9);
-        z = (z ^ (z >> 27)).wrapping_mul(0x94d0_49bb_1331_11eb);
-        z ^ (z >> 31)
+        let drawn = mixed(self.0);
+        self.0 = self.0.wrapping_add(STEP);
+        drawn
     }
 
     /// A number below `bound`, which is not 0.

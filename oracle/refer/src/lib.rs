@@ -5,6 +5,7 @@
 //! needs them to be, and the comparison with the oracle tells whether the Rust's are the same.
 
 pub mod list;
+pub mod mix;
 pub mod read;
 pub mod refuse;
 pub mod run;
@@ -39,9 +40,17 @@ pub fn blocks(text: &[u8]) -> Result<Vec<String>, u32> {
     Ok(list::block_lines(&parse(text)?))
 }
 
-/// Both runs of an input's text and of its list in so many worlds, or its refusal; none of an
-/// imported function. A string tells how they differ.
-pub fn runs(input: &[u8], worlds: u64) -> Result<Vec<Result<Alike, String>>, u32> {
+/// Both runs of a text and of its list.
+pub struct Runs {
+    pub imported: bool,
+    /// Whether the text has a case that is let off.
+    pub let_off: bool,
+    /// For each world; a string tells how they differ. None of an imported function.
+    pub pairs: Vec<Result<Alike, String>>,
+}
+
+/// Both runs of an input's text in so many worlds, or its refusal.
+pub fn runs(input: &[u8], worlds: u64) -> Result<Runs, u32> {
     let lines = match answer(input) {
         Answer::List { lines, .. } => lines,
         Answer::Refused(number) => return Err(number),
@@ -50,7 +59,12 @@ pub fn runs(input: &[u8], worlds: u64) -> Result<Vec<Result<Alike, String>>, u32
     cursor.first();
     let func = parse(cursor.0)?;
     let worlds = if func.imported { 0 } else { worlds };
-    Ok((0..worlds).map(|place| run::alike(&func, &lines, World::new(input, place))).collect())
+    let pair = |place| run::alike(&func, &lines, World::new(input, place));
+    Ok(Runs {
+        imported: func.imported,
+        let_off: !func.let_off().is_empty(),
+        pairs: (0..worlds).map(pair).collect(),
+    })
 }
 
 /// Refusals 1 to 7 and 13, and the function.

@@ -70,13 +70,19 @@ fn print_blocks(out: &mut dyn Write, text: &[u8]) -> io::Result<()> {
     }
 }
 
-/// A line for each world.
+/// A line about the text and one for each world.
 fn print_runs(out: &mut dyn Write, input: &[u8]) -> io::Result<()> {
     let found = match runs(input, WORLDS) {
         Ok(found) => found,
         Err(number) => return writeln!(out, "(refused {number})"),
     };
-    for run in found {
+    let text = match (found.imported, found.let_off) {
+        (true, _) => "no body",
+        (_, true) => "a body with a case let off",
+        _ => "a body",
+    };
+    writeln!(out, "(list, {text})")?;
+    for run in found.pairs {
         match run {
             Ok(run) => {
                 let end = match run.end {

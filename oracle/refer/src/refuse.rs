@@ -233,7 +233,7 @@ impl Func {
     /// Document 02, W2: 'A case whose last node is an exit may now have no outputs at all beside a
     /// select with outs.' The last node is the last of the region's list, and it is itself an exit:
     /// one that holds exits is none.
-    fn is_ended(&self, case: u32) -> bool {
+    pub fn is_ended(&self, case: u32) -> bool {
         let Region { nodes, outputs, .. } = &self.regions[case as usize];
         let is_exit = |node: &u32| matches!(self.nodes[*node as usize], Node::Exit { .. });
         outputs.is_empty() && nodes.last().is_some_and(is_exit)

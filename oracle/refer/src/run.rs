@@ -1,13 +1,16 @@
 //! Document 01, 'Running the regions and the blocks': both runs of an accepted text, compared.
 
 use crate::list::Line;
+use crate::mix::mixed;
 use crate::read::*;
 use std::collections::{HashMap, HashSet};
 
 /// The value that is true; every other is false.
 const TRUE: u64 = 1;
 /// Steps of the regions' run: a node, an op, a lap or a way out each. The blocks' run, which may
-/// take another number of steps, is followed further.
+/// take another number of steps, is followed further, and where it ends the regions' run further
+/// still. Where that does not do, as with laps over a hundred empty nodes, runs are called different
+/// that are not; none that differ are called alike.
 const STEPS: usize = 300;
 const FURTHER: usize = 6;
 
@@ -52,13 +55,6 @@ impl World {
         let words = words.chain(inputs.iter().copied()).chain([u64::from(opcode), targets as u64]);
         (self.draw(4, words) % targets as u64) as usize
     }
-}
-
-fn mixed(word: u64) -> u64 {
-    let word =
-        (word.wrapping_add(0x9e37_79b9_7f4a_7c15) ^ word >> 30).wrapping_mul(0xbf58_476d_1ce4_e5b9);
-    let word = (word ^ word >> 27).wrapping_mul(0x94d0_49bb_1331_11eb);
-    word ^ word >> 31
 }
 
 /// An executed instruction.
