@@ -1,6 +1,7 @@
 -- Demand 2 about the list that is written, for every accepted text, imported functions too: new ids run from the first id to one below the next
 -- free id, none twice; every id in the list is below that one, which is 4,194,303 at most; a phi has one pair for each kept block with an edge to
--- it, holding that edge's value; the exit of a case whose last node is an exit stands in no kept block; and the two labels of a 250 differ. No hypothesis beyond the answer. Assumes nothing.
+-- it, holding that edge's value; the exit of a case whose last node is an exit stands in no kept block; and the two labels of a 250 differ. No
+-- hypothesis beyond the answer. Assumes nothing.
 use mathlib.Core.Path.{_≡_, refl, sym, ap, _∙_, subst}
 use mathlib.Core.Bool.{true}
 use mathlib.Core.List.{List}

@@ -85,9 +85,6 @@ module _ (F : Func) where
   no-exit : {n : ℕ} {d : Node} → nodeOf F n ≡ d → isExit d ≡ false → {q : CfgPoint} → q ≡ nodeExit n → Ended q → ⊥
   no-exit {n} {d} e z {q} h en = false≢true (sym z ∙ ap isExit (sym e) ∙ subst Ended h en)
 
-  not-ended : {p q : CfgPoint} → (Ended p → ⊥) → q ≡ p → Ended q → ⊥
-  not-ended f e en = f (subst Ended e en)
-
   module _ (child-once : (n k c : ℕ) → In c (childrenOf (nodeOf F n)) → In c (childrenOf (nodeOf F k)) → n ≡ k) where
     behind-entry : (r : ℕ) (p : Place) → Behind (regionEntry r, entryBlock F r p)
     behind-entry r p q h en = absurd (by-nodes (regionOf F r .nodes) refl h)

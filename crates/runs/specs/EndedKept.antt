@@ -1,5 +1,6 @@
 -- Neither the exit of an exit node nor the exit of a case that ends in one is kept (W2). The first has use count 0. It alone leads to the second,
--- which has use count 1 and no phis, so it absorbs it. What is kept therefore takes as many values along each edge as the target has phis. Assumes nothing.
+-- which has use count 1 and no phis, so it absorbs it. What is kept therefore takes as many values along each edge as the target has phis. Assumes
+-- nothing.
 --     ended-dropped      the count of such a point is 0 after all absorptions
 --     kept-term          the way out of a kept block
 use mathlib.Core.Path.{_≡_, refl, sym, ap, _∙_, subst}
