@@ -13,7 +13,7 @@ use Rattle.lifting.specs.Lists.{every, distinct, keys}
 use Rattle.lifting.specs.Ast.{block, Node, ControlInst, Func}
 use Rattle.lifting.specs.Parts.{nodeOf, childrenOf, values, insts, nodeList, opList, childList, ctrlRegions, requiredIds}
 use Rattle.lifting.specs.Limits.{maxOpcode}
-use Rattle.lifting.specs.References.{named, instFits, referencesHold}
+use Rattle.lifting.specs.References.{named, instFits, controlHolds, referencesHold}
 use Rattle.func.specs.Lists.{both, every-at, every-append, every-gather}
 use Rattle.func.specs.Layout.{regions}
 use Rattle.func.specs.Decode.{funcOf}
@@ -30,7 +30,8 @@ refer-below F e =
     let x = every (λ x. ltb 0 x) (requiredIds F) in
     let y = distinct (map (λ c. c .id) (F .consts)) in
     let z = every (λ c. leb (c .opcode) maxOpcode) (F .consts) in
-    both (a && b && c) d (both (a && b && c && d) x (both (a && b && c && d && x) y (both (a && b && c && d && x && y) z (both (a && b && c && d && x && y && z) (every instFits (insts F)) e .0) .0) .0) .0) .1
+    let u = every controlHolds (F .nodes) in
+    both (a && b && c) d (both (a && b && c && d) x (both (a && b && c && d && x) y (both (a && b && c && d && x && y) z (both (a && b && c && d && x && y && z) u (both (a && b && c && d && x && y && z && u) (every instFits (insts F)) e .0) .0) .0) .0) .0) .1
 
 module _ {w : List ℕ} (t : Tables w) (e : every (λ r. ltb r (length (funcOf w .regions))) (childList (funcOf w) ++ ctrlRegions (funcOf w)) ≡ true) where
   abbrev F : Func

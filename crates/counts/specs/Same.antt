@@ -14,7 +14,7 @@ use Rattle.lifting.specs.Ast.{boolCond, spvInst, Node, block, select, loop, exi
 use Rattle.lifting.specs.Parts.{regionOf, nodeOf, childrenOf, outsOf, nodeValues, nodeList, opList, childList, ctrlRegions, requiredIds, insts}
 use Rattle.lifting.specs.Parts as text
 use Rattle.lifting.specs.Limits.{maxOpcode, withinLimits}
-use Rattle.lifting.specs.References.{named, instFits, referencesHold}
+use Rattle.lifting.specs.References.{named, instFits, controlHolds, referencesHold}
 use Rattle.lifting.specs.Tree.{standsOnce, aroundItself, rootsHaveWaysOut, isTree}
 use Rattle.lifting.specs.Counts.{isExit, endsInExit, outsFit, nodeFits, edgesFit, bodyOuts, bodyFits, countsAgree}
 use Rattle.func.specs.Lists.{both, every-at, every-append, every-gather}
@@ -57,7 +57,8 @@ references F e =
     let x = every (λ x. ltb 0 x) (requiredIds F) in
     let y = distinct (map (λ c. c .id) (F .consts)) in
     let z = every (λ c. leb (c .opcode) maxOpcode) (F .consts) in
-    let q = both (a && b && c) d (both (a && b && c && d) x (both (a && b && c && d && x) y (both (a && b && c && d && x && y) z (both (a && b && c && d && x && y && z) (every instFits (insts F)) e .0) .0) .0) .0) in
+    let u = every controlHolds (F .nodes) in
+    let q = both (a && b && c) d (both (a && b && c && d) x (both (a && b && c && d && x) y (both (a && b && c && d && x && y) z (both (a && b && c && d && x && y && z) u (both (a && b && c && d && x && y && z && u) (every instFits (insts F)) e .0) .0) .0) .0) .0) in
     (every-append (λ r. ltb r (length (F .regions))) (childList F) (ctrlRegions F) (q .1) .0, both a b (both (a && b) c (q .0) .0) .1)
 
 tree : (F : Func) → isTree F ≡ true → (distinct (childList F) ≡ true) × (standsOnce (length (F .nodes)) (nodeList F) ≡ true)
@@ -85,17 +86,17 @@ eqb-more a b = go (eqb a b) refl
 -- a loop has a body
 loop-body : (g : Node) → nodeNumber g ≡ 3 → 0 < length (childrenOf g)
 loop-body (block is) e = absurd (omega arith)
-loop-body (select boolCond v cs ds) e = absurd (omega arith)
-loop-body (select (spvInst i) v cs ds) e = absurd (omega arith)
-loop-body (loop b c vs) e = omega arith
+loop-body (select boolCond v cs ds u) e = absurd (omega arith)
+loop-body (select (spvInst i) v cs ds u) e = absurd (omega arith)
+loop-body (loop b c vs u) e = omega arith
 loop-body (exit i vs) e = absurd (omega arith)
 
 -- an exit's number is 4
 exit-number : (g : Node) → eqb (nodeNumber g) 4 ≡ isExit g
 exit-number (block is) = refl
-exit-number (select boolCond v cs ds) = refl
-exit-number (select (spvInst i) v cs ds) = refl
-exit-number (loop b c vs) = refl
+exit-number (select boolCond v cs ds u) = refl
+exit-number (select (spvInst i) v cs ds u) = refl
+exit-number (loop b c vs u) = refl
 exit-number (exit i vs) = refl
 
 -- the last of k + 1 nodes
@@ -251,11 +252,11 @@ module _ (F : Func) (w : List ℕ) (s : Stored F w) (l : withinLimits F ≡ true
 
   node-is : (n : ℕ) (g : Node) → Row n g → nodeTest w n ≡ nodeFits F g
   node-is n (block is) r = ap (kindTest w n) (r .kind)
-  node-is n (select boolCond v cs ds) r =
+  node-is n (select boolCond v cs ds u) r =
       ap (kindTest w n) (r .kind) ∙ (λ k. eqb (list-count (r .kids) k) 2 && cases-are r k) ∙ and-comm (eqb (length cs) 2) _
-  node-is n (select (spvInst i) v cs ds) r =
+  node-is n (select (spvInst i) v cs ds u) r =
       ap (kindTest w n) (r .kind) ∙ (λ k. ltb 0 (list-count (r .kids) k) && cases-are r k) ∙ and-comm (ltb 0 (length cs)) _
-  node-is n (loop b c vs) r =
+  node-is n (loop b c vs u) r =
       let m : b < length (F .regions) = child-low r 0 (omega arith) in
       ap (kindTest w n) (r .kind)
       ∙ ap (bodyTest w n) (child-is r 0 0 (omega arith) refl)

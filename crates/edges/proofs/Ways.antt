@@ -74,7 +74,7 @@ module _ (F : Func) {x : Way} where
   pub count-as : {y : Way} → x ≡ y → {n : ℕ} → n ≡ length (termEdges (wayTerm F y)) → n ≡ length (termEdges (wayTerm F x))
   count-as g e = e ∙ sym (ap (λ (z : Way). length (termEdges (wayTerm F z))) g)
 
-  pub count-select : {n : ℕ} → x ≡ Select n → {a b : ℕ} → a ≡ length (childrenOf (nodeOf F n)) → b ≡ soleOf a → b ≡ length (termEdges (wayTerm F x))
+  pub count-select : {n u : ℕ} → x ≡ Select n u → {a b : ℕ} → a ≡ length (childrenOf (nodeOf F n)) → b ≡ soleOf a → b ≡ length (termEdges (wayTerm F x))
   count-select {n} g {a} ea eb =
       count-as g (eb ∙ ap soleOf (ea ∙ sym (length-map (childrenOf (nodeOf F n)) regionEntry)) ∙ sole-length (map regionEntry (childrenOf (nodeOf F n))))
 
@@ -137,7 +137,7 @@ module _ (F : Func) {x : Way} (k : ℕ) (h : k < length (termEdges (wayTerm F x)
   pub edge-one : {y : Way} {p : CfgPoint} → x ≡ y → termEdges (wayTerm F y) ≡ (p, 0) ∷ [] → {q : ℕ} → q ≡ pointNumber p → q ≡ numberAt (termEdges (wayTerm F x)) k
   edge-one g e z = edge-as g (z ∙ sym (first-of k e (edge-within g)))
 
-  pub edge-case : {n : ℕ} → x ≡ Select n
+  pub edge-case : {n u : ℕ} → x ≡ Select n u
       → (0 < length (childrenOf (nodeOf F n))) × (numberAt (termEdges (wayTerm F x)) k ≡ pointNumber (regionEntry (getD (childrenOf (nodeOf F n)) 0 0)))
   edge-case {n} g =
       let s = sole-point (childrenOf (nodeOf F n)) k (edge-within g) in

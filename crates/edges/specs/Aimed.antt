@@ -16,7 +16,7 @@ use Rattle.lifting.specs.Lists.{choose, choose-yes, distinct, every, find, gath
 use Rattle.lifting.specs.Ast.{ControlInst, Func, Node, Value, block, exit, loop, select}
 use Rattle.lifting.specs.Parts.{childList, ctrlOf, ctrlRegions, insts, nodeOf, regionOf, requiredIds, values}
 use Rattle.lifting.specs.Limits.{maxOpcode}
-use Rattle.lifting.specs.References.{instFits, named, referencesHold}
+use Rattle.lifting.specs.References.{controlHolds, instFits, named, referencesHold}
 use Rattle.lifting.specs.Points.{BlockLifting, CfgPoint, Table, Terminator, eqPoint, nodeEntry, nodeExit, points, regionEntry, regionExit}
 use Rattle.lifting.specs.Walk.{Place, always, childTerm, exitTerm, inBlock, loopTerm, rootTerm, someVals, walkOf}
 use Rattle.lifting.specs.Absorb.{mergeLabels}
@@ -59,7 +59,8 @@ pub aimed-checked : (F : Func) → referencesHold F ≡ true → Aimed F
 unfolding referencesHold ctrlRegions
 aimed-checked F e =
     let fit = both _ (every instFits (insts F)) e in
-    let opcodes = both _ (every (λ c. leb (c .opcode) maxOpcode) (F .consts)) (fit .0) in
+    let controls = both _ (every controlHolds (F .nodes)) (fit .0) in
+    let opcodes = both _ (every (λ c. leb (c .opcode) maxOpcode) (F .consts)) (controls .0) in
     let consts = both _ (distinct (map (λ c. c .id) (F .consts))) (opcodes .0) in
     let ids = both _ (every (λ x. ltb 0 x) (requiredIds F)) (consts .0) in
     let regions = both (every (named F) (values F) && _ && _) (every (λ r. ltb r (length (F .regions))) (childList F ++ ctrlRegions F)) (ids .0) in
@@ -151,14 +152,14 @@ some-few p (v ∷ vs) ps = omega arith
 module _ (F : Func) where
   few-in : (d : Node) (n : ℕ) → length (termEdges (inBlock F d n .term)) ≤ 1
   few-in (block is) n = omega arith
-  few-in (select k v cs ds) n = sole-few (map regionEntry cs)
-  few-in (loop b c is) n = omega arith
+  few-in (select k v cs ds u) n = sole-few (map regionEntry cs)
+  few-in (loop b c is u) n = omega arith
   few-in (exit i vs) n = omega arith
 
   few-child : (d : Node) (n : ℕ) (vs : List Value) → length (termEdges (childTerm F d n vs)) ≤ 1
   few-child (block is) n vs = omega arith
-  few-child (select k v cs ds) n vs = some-few (nodeExit n) vs (nodeExit n ∷ [])
-  few-child (loop b c is) n vs = by-case (always F c)
+  few-child (select k v cs ds u) n vs = some-few (nodeExit n) vs (nodeExit n ∷ [])
+  few-child (loop b c is u) n vs = by-case (always F c)
     where
       by-case : (a : Bool) → length (termEdges (loopTerm F a n c vs)) ≤ 1
       by-case true = some-few (nodeEntry n) vs (nodeEntry n ∷ [])

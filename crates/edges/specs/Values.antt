@@ -113,16 +113,16 @@ module _ (F : Func) where
 
   module _ (ok : Shaped F) where
     -- a loop whose body has no outputs has no phis
-    no-phis : (n b : ℕ) {c : Value} {is : List Value} → nodeOf F n ≡ loop b c is → regionOf F b .outs ≡ [] → inBlock F (nodeOf F n) n .keys ≡ []
-    no-phis n b {c} {is} e z =
+    no-phis : (n b : ℕ) {c : Value} {is : List Value} {u : ℕ} → nodeOf F n ≡ loop b c is u → regionOf F b .outs ≡ [] → inBlock F (nodeOf F n) n .keys ≡ []
+    no-phis n b {c} {is} {u} e z =
         let l : length (regionOf F b .ins) ≡ 0 = sym (ok .fitting .loop-outs n e) ∙ ap length z in
-        ap (λ (d : Node). inBlock F d n .keys) e ∙ empty (inBlock F (loop b c is) n .keys) (length-tabulate (regionInput b) 0 (length (regionOf F b .ins)) ∙ l)
+        ap (λ (d : Node). inBlock F d n .keys) e ∙ empty (inBlock F (loop b c is u) n .keys) (length-tabulate (regionInput b) 0 (length (regionOf F b .ins)) ∙ l)
       where
         empty : (l : List Value) → length l ≡ 0 → l ≡ []
         empty [] h = refl
         empty (v ∷ l) h = absurd (omega arith)
 
-    carries-loop : (n b : ℕ) {c : Value} {is : List Value} → nodeOf F n ≡ loop b c is → (a : Bool) → Carries (loopTerm F a n c (regionOf F b .outs))
+    carries-loop : (n b : ℕ) {c : Value} {is : List Value} {u : ℕ} → nodeOf F n ≡ loop b c is u → (a : Bool) → Carries (loopTerm F a n c (regionOf F b .outs))
     carries-loop n b {c} e true = carries-one (loopTerm F true n c (regionOf F b .outs)) (nodeEntry n) (regionOf F b .outs) refl refl
     carries-loop n b {c} {is} e false = by-outs (regionOf F b .outs) refl
       where
@@ -152,17 +152,17 @@ module _ (F : Func) where
 
     carries-in : (d : Node) (n : ℕ) → Carries (inBlock F d n .term)
     carries-in (block is) n = carries-one (straight (nodeExit n)) (nodeExit n) [] refl refl
-    carries-in (select k v cs ds) n = carries-none (inBlock F (select k v cs ds) n .term) refl (λ m i. no-node cs m i)
-    carries-in (loop b c is) n = carries-one (inBlock F (loop b c is) n .term) (regionEntry b) [] refl refl
+    carries-in (select k v cs ds u) n = carries-none (inBlock F (select k v cs ds u) n .term) refl (λ m i. no-node cs m i)
+    carries-in (loop b c is u) n = carries-one (inBlock F (loop b c is u) n .term) (regionEntry b) [] refl refl
     carries-in (exit i vs) n = carries-none (inBlock F (exit i vs) n .term) refl (λ m i. in-nil i)
 
     module _ (control : controlFits F ≡ true) where
       carries-exit : {r : ℕ} {p : Place} → Visited F r p → Carries (exitTerm F r p)
       carries-exit at-body = carries-root control (ctrlOf F 0) 0 refl
       carries-exit (by-ctrl {s = s} v e i) = carries-root control (ctrlOf F s) s refl
-      carries-exit (in-case {n = n} {c = c} {kd = kd} {v = w} {cs = cs} {ds = ds} v sf e i) =
+      carries-exit (in-case {n = n} {c = c} {kd = kd} {v = w} {cs = cs} {ds = ds} {u = u} v sf e i) =
           let vs : List Value = regionOf F c .outs in
-          subst (λ (d : Node). Carries (childTerm F d n vs)) (sym e) (carries-one (childTerm F (select kd w cs ds) n vs) (nodeExit n) vs refl refl)
+          subst (λ (d : Node). Carries (childTerm F d n vs)) (sym e) (carries-one (childTerm F (select kd w cs ds u) n vs) (nodeExit n) vs refl refl)
       carries-exit (in-loop {n = n} {b = b} {c = c} {is = is} v sf e) =
           subst (λ (d : Node). Carries (childTerm F d n (regionOf F b .outs))) (sym e) (carries-loop n b e (always F c))
 

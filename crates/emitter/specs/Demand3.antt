@@ -1,7 +1,8 @@
 -- Demands 2 and 3 about the words that stand in the output slice after an accepted call: running the regions of the text and running the blocks of
 -- that list are alike in every world, and neither run is ever stuck; the list gives each new id once, and every id in it is below the next free one;
--- each phi has one pair for each block whose way out names its block; the two labels of a 250 differ. The hypotheses are what `lift_function` promises, that it told a word count, and
--- for the runs that the text has a body. Assumes nothing.
+-- each phi has one pair for each block whose way out names its block; the two labels of a 250 differ; each merge carries its own node's control
+-- word, on which no run depends. The hypotheses are what `lift_function` promises, that it told a word count, and for the runs that the text has a
+-- body. Assumes nothing.
 use mathlib.Core.Path.{_≡_, refl, sym, ap, subst, _∙_}
 use mathlib.Core.Bool.{true}
 use mathlib.Core.List.{List, _++_}
@@ -16,6 +17,7 @@ use Rattle.lifting.specs.Parts.{hasBody}
 use Rattle.lifting.specs.Limits.{highestId}
 use Rattle.lifting.specs.Walk.{walkOf}
 use Rattle.lifting.specs.Absorb.{kept}
+use Rattle.lifting.specs.Ids.{labelOf}
 use Rattle.lifting.specs.Instructions.{Instruction}
 use Rattle.lifting.specs.Words.{listFrom}
 use Rattle.lifting.specs.Answer.{Answer, answer, listed, outAfter, refused}
@@ -28,9 +30,11 @@ use Rattle.runs.specs.Members.{All, In}
 use Rattle.runs.specs.ListIds.{RunOn, givenIds}
 use Rattle.runs.specs.ListPhis.{PhiPairs, phiIds}
 use Rattle.runs.specs.Demand3.{demand-3, never-stuck}
+use Rattle.runs.specs.Controls.{SameButControls, regions-of-another}
 use Rattle.flat.specs.Below.{IdsBelow}
 use Rattle.flat.specs.Labels.{LabelsDiffer}
-use Rattle.flat.specs.Demand2.{list-below, list-ids, list-labels, list-phis}
+use Rattle.flat.specs.Merges.{OwnControl}
+use Rattle.flat.specs.Demand2.{list-below, list-controls, list-ids, list-labels, list-phis}
 use Rattle.emitter.specs.declared.Lifted.the-variants.{Whole}
 use Rattle.emitter.specs.Lift.{gives, outcome, refuses, told}
 
@@ -93,6 +97,21 @@ module _ (text func work out exit : List ℕ) (first n next : ℕ) where
         subst (λ (ws : List ℕ). (k : ℕ) (body : List Instruction) → In (k, body) (parts (listFrom ws) .blocks)
         → (j : ℕ) → j < length (phisOf body) → PhiPairs F first (walkOf F) (kept (walkOf F)) (parts (listFrom ws) .blocks) k j (phiIds body j)) (sym (l .2))
         (list-phis text first (length func) (length work) (length out) (l .0) next (l .1) F is)
+
+    -- each merge names the exit of a select or a loop and carries that node's control number (document 02, W4)
+    pub lifted-controls : (F : Func) → read text ≡ some F → All (OwnControl F (labelOf F first (walkOf F) (kept (walkOf F)))) (listFrom (take n exit))
+    lifted-controls F is =
+        let l = written-list in
+        subst (λ (ws : List ℕ). All (OwnControl F (labelOf F first (walkOf F) (kept (walkOf F)))) (listFrom ws)) (sym (l .2))
+        (list-controls text first (length func) (length work) (length out) (l .0) next (l .1) F is)
+
+    -- and the blocks run as the regions do of any function that differs from the text in control numbers only
+    pub lifted-runs-another : (F : Func) → read text ≡ some F → hasBody (F .regions) ≡ true → (G : Func) → SameButControls F G → {Val : Type 0} (W : World Val) → TrueConstants G W
+        → AlikeRuns G (listFrom (take n exit)) W
+    lifted-runs-another F is body G same W true41 =
+        let l = written-list in
+        subst (λ (ws : List ℕ). AlikeRuns G (listFrom ws) W) (sym (l .2))
+        (regions-of-another text first (length func) (length work) (length out) (l .0) next (l .1) F is body G same W true41)
 
     -- neither run is ever stuck
     pub lifted-goes-on : (F : Func) → read text ≡ some F → hasBody (F .regions) ≡ true → {Val : Type 0} (W : World Val) (l : List (Executed Val))

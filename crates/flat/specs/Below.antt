@@ -47,8 +47,8 @@ module _ (F : Func) (P : Decl → Type 0) (h : All P (decls F)) where
 
   at-node : (d : Node) (n : ℕ) → All P (inBlock F d n .decls)
   at-node (block is) n = tt
-  at-node (select k v cs ds) n = tt
-  at-node (loop b c is) n = of-region b
+  at-node (select k v cs ds u) n = tt
+  at-node (loop b c is u) n = of-region b
   at-node (exit i vs) n = tt
 
   walked : All Declared (walkOf F)
@@ -150,8 +150,8 @@ module _ (F : Func) (first : ℕ) (positive : 0 < first) (under : All (λ x. x <
     merge-low : (m : Merge) → All LowIds (mergeInsts F first T K m)
     unfolding mergeInsts
     merge-low noMerge = tt
-    merge-low (selectionMerge a) = ((zero-low, (zero-low, (label-low a, tt))), tt)
-    merge-low (loopMerge a b) = ((zero-low, (zero-low, (label-low a, (label-low b, tt)))), tt)
+    merge-low (selectionMerge a u) = ((zero-low, (zero-low, (label-low a, tt))), tt)
+    merge-low (loopMerge a b u) = ((zero-low, (zero-low, (label-low a, (label-low b, tt)))), tt)
 
     term-low : (t : Terminator) → LowIds (termInst F first T K t)
     unfolding termInst

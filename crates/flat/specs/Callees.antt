@@ -22,8 +22,8 @@ module _ (F : Func) (refs : Refers F) where
 
   in-below : (d : Node) (n : ℕ) → All Below (blockOps d) → OpsBelow (inBlock F d n)
   in-below (block is) n h = h
-  in-below (select k v cs ds) n h = tt
-  in-below (loop b c is) n h = tt
+  in-below (select k v cs ds u) n h = tt
+  in-below (loop b c is u) n h = tt
   in-below (exit i vs) n h = tt
 
   walk-below : Each OpsBelow (walkOf F)

@@ -1,10 +1,11 @@
 -- Demand 2 about the list that is written, for every accepted text, imported functions too: new ids run from the first id to one below the next
 -- free id, none twice; every id in the list is below that one, which is 4,194,303 at most; a phi has one pair for each kept block with an edge to
--- it, holding that edge's value; the exit of a case whose last node is an exit stands in no kept block; and the two labels of a 250 differ. No
--- hypothesis beyond the answer. Assumes nothing.
+-- it, holding that edge's value; the exit of a case whose last node is an exit stands in no kept block; the two labels of a 250 differ; each merge
+-- carries the control number of the node whose exit it names, and nothing else of the list depends on these numbers. No hypothesis beyond the answer.
+-- Assumes nothing.
 use mathlib.Core.Path.{_≡_, refl, sym, ap, _∙_, subst}
 use mathlib.Core.Bool.{true}
-use mathlib.Core.List.{List}
+use mathlib.Core.List.{List, map}
 use mathlib.Core.Option.{some}
 use Prim.Native.Nat.{ℕ, suc, _≤_, _<_}
 use native.Mathlib.Omega.{arith}
@@ -17,7 +18,7 @@ use Rattle.lifting.specs.Counts.{endsInExit}
 use Rattle.lifting.specs.Points.{Table, regionExit}
 use Rattle.lifting.specs.Walk.{walkOf}
 use Rattle.lifting.specs.Absorb.{absorb, kept, useCount}
-use Rattle.lifting.specs.Ids.{nextId, phiKeys}
+use Rattle.lifting.specs.Ids.{labelOf, nextId, phiKeys}
 use Rattle.lifting.specs.Instructions.{Instruction, listOf}
 use Rattle.lifting.specs.Words.{listFrom}
 use Rattle.lifting.specs.BlockRun.{parts, phisOf}
@@ -26,14 +27,18 @@ use Rattle.runs.specs.Members.{All, In}
 use Rattle.runs.specs.Listing.{blocksFor, emit-blocks}
 use Rattle.runs.specs.EmitRun.{all-free}
 use Rattle.runs.specs.Fits.{first-fits}
+use Rattle.runs.specs.Refers.{refers}
 use Rattle.runs.specs.Passes.{answer-passes}
 use Rattle.runs.specs.Shaped.{Shaped, shaped-accepted}
 use Rattle.runs.specs.ListIds.{RunOn, givenIds, ids-run-on}
 use Rattle.runs.specs.ListPhis.{PhiPairs, phiIds, phi-pairs-of}
 use Rattle.runs.specs.EveryText.{of-walk}
 use Rattle.runs.specs.Demand3.{accepted, fine, list-is, passed}
+use Rattle.runs.specs.Controls.{SameButControls, cleared}
 use Rattle.flat.specs.Below.{IdsBelow, list-low}
 use Rattle.flat.specs.Labels.{LabelsDiffer, kept-parted, list-apart}
+use Rattle.flat.specs.Merges.{OwnControl, kept-own, list-own}
+use Rattle.flat.specs.Cleared.{clearedInst, list-of-cleared, next-of-cleared}
 use Rattle.flat.specs.Phis.{phi-keys-kept}
 use Rattle.flat.specs.Flat.{gone, noPair, statusAt}
 use Rattle.flat.specs.Standing.{case-exit-gone}
@@ -68,7 +73,7 @@ module _ (text : List ℕ) (first func work out : ℕ) (ws : List ℕ) (next : �
       (sym blocks-are) (phi-pairs-of F first T K (f .sound) (f .points-once))
 
   -- Document 02, W2: the exit of a case whose last node is an exit stands in no kept block, so phis take no pair from it.
-  pub exit-of-case-gone : (n c : ℕ) {k : SelectionKind} {v : Value} {cs : List ℕ} {ds : List Decl} → nodeOf F n ≡ select k v cs ds → In c cs → endsInExit F (regionOf F c .nodes) ≡ true
+  pub exit-of-case-gone : (n c : ℕ) {k : SelectionKind} {v : Value} {cs : List ℕ} {ds : List Decl} {u : ℕ} → nodeOf F n ≡ select k v cs ds u → In c cs → endsInExit F (regionOf F c .nodes) ≡ true
       → (i : ℕ) → i < length (walkOf F) → getD (walkOf F) i noPair .0 ≡ regionExit c → statusAt (useCount (walkOf F)) (walkOf F) i ≡ gone
   exit-of-case-gone n c e j en = of-walk F (λ (U : Table). (i : ℕ) → i < length U → getD U i noPair .0 ≡ regionExit c → statusAt (useCount U) U i ≡ gone)
       (λ body. case-exit-gone F (shaped body) n c e j en) (λ i h. absurd (omega arith))
@@ -78,6 +83,21 @@ module _ (text : List ℕ) (first func work out : ℕ) (ws : List ℕ) (next : �
   unfolding kept absorb keptByCount
   absorbed-by-count = of-walk F (λ (U : Table). keptByCount U ≡ kept U) (λ body. by-count-alone F (shaped body)) refl
 
+  -- Document 02, W4: each merge of the list names the exit of a select or a loop of the text and carries that node's control number, 0, 1 or 2.
+  pub list-controls : All (OwnControl F (labelOf F first T K)) (listFrom ws)
+  unfolding listOf
+  list-controls =
+      subst (All (OwnControl F (labelOf F first T K))) (sym (list-is text first func work out ws next ok F is))
+      (list-own F first T K (refers F (passed text first func work out ws next ok F is .references)) (fine text first func work out ws next ok F is .sound) (kept-own F))
+
+  -- The Rust writes 0 there: with that word cleared the list is that of the function with 0 for each control number, and the next free id is the same.
+  pub list-cleared : map clearedInst (listFrom ws) ≡ listOf (cleared F) first
+  list-cleared =
+      ap (map clearedInst) (list-is text first func work out ws next ok F is) ∙ sym (list-of-cleared F first (fine text first func work out ws next ok F is .sound))
+
+  pub next-cleared : next ≡ nextId (cleared F) first (walkOf (cleared F)) (kept (walkOf (cleared F)))
+  next-cleared = passed text first func work out ws next ok F is .next-is ∙ sym (next-of-cleared F first)
+
   ids-of : RunOn first next (givenIds (listFrom ws))
   unfolding listOf kept absorb
   ids-of =
@@ -86,6 +106,16 @@ module _ (text : List ℕ) (first func work out : ℕ) (ws : List ℕ) (next : �
       let phis = of-walk F (λ (U : Table). phiKeys (kept U) ≡ phiKeys U) (λ body. phi-keys-kept F (shaped body)) refl in
       subst (RunOn first next) (ap givenIds (sym (list-is text first func work out ws next ok F is)))
       (subst (λ (n : ℕ). RunOn first n (givenIds (listOf F first))) (sym (p .next-is)) (ids-run-on F first T K (f .sound) phis (f .names-once) (f .phis-fresh)))
+
+-- Document 02, W4: two texts that differ in control numbers only, lifted with one first id: their lists differ in these words of merges only, and the
+-- next free id is the same.
+pub same-lists : (text : List ℕ) (first func work out : ℕ) (ws : List ℕ) (next : ℕ) → answer text first func work out ≡ listed ws next → (F : Func) → read text ≡ some F
+    → (text2 : List ℕ) (func2 work2 out2 : ℕ) (ws2 : List ℕ) (next2 : ℕ) → answer text2 first func2 work2 out2 ≡ listed ws2 next2 → (G : Func) → read text2 ≡ some G
+    → SameButControls F G → (map clearedInst (listFrom ws) ≡ map clearedInst (listFrom ws2)) × (next ≡ next2)
+same-lists text first func work out ws next ok F is text2 func2 work2 out2 ws2 next2 ok2 G is2 same = (
+  list-cleared text first func work out ws next ok F is ∙ ap (λ (H : Func). listOf H first) same ∙ sym (list-cleared text2 first func2 work2 out2 ws2 next2 ok2 G is2),
+  next-cleared text first func work out ws next ok F is ∙ ap (λ (H : Func). nextId H first (walkOf H) (kept (walkOf H))) same ∙ sym (next-cleared text2 first func2 work2 out2 ws2 next2 ok2 G is2),
+)
 
 -- The ids that the list's instructions give: each id from the first to one below the next free id, and no other, none twice.
 pub list-ids : (text : List ℕ) (first func work out : ℕ) (ws : List ℕ) (next : ℕ) → answer text first func work out ≡ listed ws next → RunOn first next (givenIds (listFrom ws))

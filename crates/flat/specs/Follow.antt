@@ -16,8 +16,8 @@ use Rattle.flat.specs.Steps.{Step, step-entry, step-exit, step-in, step-
 
 abbrev pub isBlock : Node → Bool
 isBlock (block is) = true
-isBlock (select k v cs ds) = false
-isBlock (loop b c is) = false
+isBlock (select k v cs ds u) = false
+isBlock (loop b c is u) = false
 isBlock (exit i vs) = false
 
 -- a region's entry, a block's entry, a node's exit
@@ -36,8 +36,8 @@ module _ (F : Func) where
 
   in-goes : (d : Node) (n : ℕ) (o : Option CfgPoint) → (childrenOf d ≡ [] → o ≡ some (nodeExit n)) → isBlock d ≡ true → Straight (inBlock F d n .term) o
   in-goes (block is) n o h e = (nodeExit n, h refl, refl)
-  in-goes (select k v cs ds) n o h e = absurd (false≢true e)
-  in-goes (loop b c is) n o h e = absurd (false≢true e)
+  in-goes (select k v cs ds u) n o h e = absurd (false≢true e)
+  in-goes (loop b c is u) n o h e = absurd (false≢true e)
   in-goes (exit i vs) n o h e = absurd (false≢true e)
 
   step-goes : (x : CfgPoint × BlockLifting) (o : Option CfgPoint) → Step F x o → Goes x o

@@ -80,8 +80,8 @@ module _ (F : Func) (references : referencesHold F ≡ true) (tree : isTree F �
 
   child-parted : (d : Node) (n : ℕ) (vs : List Value) → let t = childTerm F d n vs in Apart (t .kind) (t .ins) (t .targets)
   child-parted (block is) n vs = tt
-  child-parted (select k v cs ds) n vs = tt
-  child-parted (loop b c is) n vs = loop-parted (always F c) n c vs
+  child-parted (select k v cs ds u) n vs = tt
+  child-parted (loop b c is u) n vs = loop-parted (always F c) n c vs
   child-parted (exit i ws) n vs = tt
 
   exit-parted : (r : ℕ) (p : Place) → Parted (exitBlock F r p)
@@ -91,9 +91,9 @@ module _ (F : Func) (references : referencesHold F ≡ true) (tree : isTree F �
   -- 5, at a node
   in-parted : (d : Node) (n : ℕ) → NoDup (childrenOf d) → Parted (inBlock F d n)
   in-parted (block is) n h = tt
-  in-parted (select boolCond v cs ds) n h = (refl, entries-once cs h)
-  in-parted (select (spvInst i) v cs ds) n h = tt
-  in-parted (loop b c is) n h = tt
+  in-parted (select boolCond v cs ds u) n h = (refl, entries-once cs h)
+  in-parted (select (spvInst i) v cs ds u) n h = tt
+  in-parted (loop b c is u) n h = tt
   in-parted (exit i vs) n h = tt
 
   walk-parted : Each Parted (walkOf F)
@@ -152,8 +152,8 @@ module _ (F : Func) (first : ℕ) (T K : Table) (ok : Sound F first T K) where
   merge-apart : (m : Merge) → All LabelsDiffer (mergeInsts F first T K m)
   unfolding mergeInsts
   merge-apart noMerge = tt
-  merge-apart (selectionMerge a) = (λ e. absurd (omega (arith, e)), tt)
-  merge-apart (loopMerge a b) = (λ e. absurd (omega (arith, e)), tt)
+  merge-apart (selectionMerge a u) = (λ e. absurd (omega (arith, e)), tt)
+  merge-apart (loopMerge a b u) = (λ e. absurd (omega (arith, e)), tt)
 
   label-apart : (q : CfgPoint) → LabelsDiffer (labelInst F first T K q)
   unfolding labelInst

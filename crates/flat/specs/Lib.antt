@@ -19,5 +19,7 @@ pub mod Callees
 pub mod Missing
 pub mod Below
 pub mod Labels
+pub mod Merges
+pub mod Cleared
 pub mod Laws
 pub mod Demand2

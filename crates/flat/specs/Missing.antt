@@ -93,8 +93,8 @@ module _ (F : Func) (first : ℕ) (T K : Table) where
   merge-ids : (m : Merge) (i : Instruction) → In i (mergeInsts F first T K m) → i .ids ≡ map (labelOf F first T K) (mergeLabels m)
   unfolding mergeInsts
   merge-ids noMerge i h = absurd (in-nil h)
-  merge-ids (selectionMerge a) i h = one-ids h
-  merge-ids (loopMerge a c) i h = one-ids h
+  merge-ids (selectionMerge a u) i h = one-ids h
+  merge-ids (loopMerge a c u) i h = one-ids h
 
 module _ (F : Func) (ok : Shaped F) (refs : Refers F) (first : ℕ) (num : Numbered F first) where
   abbrev T : Table

@@ -41,37 +41,37 @@ module _ (F : Func) (ok : Shaped F) where
   leads-from {r} {n} d v e i = from-block (laid F ok .exit-at v ∙ ap (λ (x : Node). plain (childTerm F x n (regionOf F r .outs))) e) i
 
   -- a select's exit: its cases lead there, and it is the merge label
-  select-busy : {r n c : ℕ} {p : Place} {ns : List ℕ} {k : SelectionKind} {v : Value} {cs : List ℕ} {ds : List Decl}
-      → Visited F r p → Suffix (regionOf F r .nodes) (n ∷ ns) → nodeOf F n ≡ select k v cs ds → In c cs → 2 ≤ uses (nodeExit n)
-  select-busy {n = n} {c} {k} {v} {cs} {ds} w sf e i =
-      used-twice T (nodeEntry n) (regionExit c) (nodeExit n) (λ z. let o : _≡_ {A = ℕ} 0 1 = cc in omega arith) (merge-select F ok w sf e) (leads-from (select k v cs ds) (in-case w sf e i) e here)
+  select-busy : {r n c : ℕ} {p : Place} {ns : List ℕ} {k : SelectionKind} {v : Value} {cs : List ℕ} {ds : List Decl} {u : ℕ}
+      → Visited F r p → Suffix (regionOf F r .nodes) (n ∷ ns) → nodeOf F n ≡ select k v cs ds u → In c cs → 2 ≤ uses (nodeExit n)
+  select-busy {n = n} {c} {k} {v} {cs} {ds} {u} w sf e i =
+      used-twice T (nodeEntry n) (regionExit c) (nodeExit n) (λ z. let o : _≡_ {A = ℕ} 0 1 = cc in omega arith) (merge-select F ok w sf e) (leads-from (select k v cs ds u) (in-case w sf e i) e here)
 
   back-to : (b : Bool) (n : ℕ) (c : Value) (vs : List Value) → In (nodeEntry n) (labels (loopTerm F b n c vs))
   back-to true n c vs = here
   back-to false n c vs = here
 
   -- a loop's entry: its way back leads there too
-  pub loop-busy : {r n b : ℕ} {p : Place} {ns : List ℕ} {c : Value} {is : List Value} → Visited F r p → Suffix (regionOf F r .nodes) (n ∷ ns) → nodeOf F n ≡ loop b c is → 2 ≤ uses (nodeEntry n)
-  loop-busy {n = n} {b} {ns = ns} {c} {is} w sf e =
+  pub loop-busy : {r n b : ℕ} {p : Place} {ns : List ℕ} {c : Value} {is : List Value} {u : ℕ} → Visited F r p → Suffix (regionOf F r .nodes) (n ∷ ns) → nodeOf F n ≡ loop b c is u → 2 ≤ uses (nodeEntry n)
+  loop-busy {n = n} {b} {ns = ns} {c} {is} {u} w sf e =
       let q = before-node F ok n ns w sf refl in
-      used-twice T (q .0) (regionExit b) (nodeEntry n) (q .2 b) (q .1) (leads-from (loop b c is) (in-loop w sf e) e (back-to (always F c) n c (regionOf F b .outs)))
+      used-twice T (q .0) (regionExit b) (nodeEntry n) (q .2 b) (q .1) (leads-from (loop b c is u) (in-loop w sf e) e (back-to (always F c) n c (regionOf F b .outs)))
 
   -- where a node's entry leads
   in-ahead : (d : Node) (n : ℕ) (o : Option CfgPoint) → (childrenOf d ≡ [] → o ≡ some (nodeExit n)) → (t : CfgPoint) → soleTarget (inBlock F d n .term) ≡ some t → o ≡ some t
   in-ahead (block is) n o h t e = h refl ∙ e
-  in-ahead (select k v cs ds) n o h t e = absurd (none-some e)
-  in-ahead (loop b v is) n o h t e = absurd (none-some e)
+  in-ahead (select k v cs ds u) n o h t e = absurd (none-some e)
+  in-ahead (loop b v is u) n o h t e = absurd (none-some e)
   in-ahead (exit i vs) n o h t e = absurd (none-some e)
 
   -- where a region of a node leads
-  case-target : {k : SelectionKind} {v : Value} {cs : List ℕ} {ds : List Decl} (d : Node) (n : ℕ) (vs : List Value) (t : CfgPoint) → d ≡ select k v cs ds → soleTarget (childTerm F d n vs) ≡ some t → t ≡ nodeExit n
+  case-target : {k : SelectionKind} {v : Value} {cs : List ℕ} {ds : List Decl} {u : ℕ} (d : Node) (n : ℕ) (vs : List Value) (t : CfgPoint) → d ≡ select k v cs ds u → soleTarget (childTerm F d n vs) ≡ some t → t ≡ nodeExit n
   case-target d n vs t e h = vals-ahead (nodeExit n) vs t (subst (λ (x : Node). soleTarget (childTerm F x n vs) ≡ some t) e h)
 
   back-target : (b : Bool) (n : ℕ) (c : Value) (vs : List Value) (t : CfgPoint) → soleTarget (loopTerm F b n c vs) ≡ some t → t ≡ nodeEntry n
   back-target true n c vs t e = vals-ahead (nodeEntry n) vs t e
   back-target false n c vs t e = absurd (none-some e)
 
-  loop-target : {b : ℕ} {c : Value} {is : List Value} (d : Node) (n : ℕ) (vs : List Value) (t : CfgPoint) → d ≡ loop b c is → soleTarget (childTerm F d n vs) ≡ some t → t ≡ nodeEntry n
+  loop-target : {b : ℕ} {c : Value} {is : List Value} {u : ℕ} (d : Node) (n : ℕ) (vs : List Value) (t : CfgPoint) → d ≡ loop b c is u → soleTarget (childTerm F d n vs) ≡ some t → t ≡ nodeEntry n
   loop-target {b} {c} d n vs t e h = back-target (always F c) n c vs t (subst (λ (x : Node). soleTarget (childTerm F x n vs) ≡ some t) e h)
 
   -- where a root leads

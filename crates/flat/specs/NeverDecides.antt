@@ -100,8 +100,8 @@ module _ (F : Func) (ok : Shaped F) where
 
   in-busy : {r n : ℕ} {p : Place} {ns : List ℕ} (d : Node) → nodeOf F n ≡ d → Visited F r p → Suffix (regionOf F r .nodes) (n ∷ ns) → Busy (nodeEntry n, inBlock F d n)
   in-busy (block is) e v sf m = absurd (m refl)
-  in-busy (select k w cs ds) e v sf m = absurd (m refl)
-  in-busy (loop b c is) e v sf m = loop-busy F ok v sf e
+  in-busy (select k w cs ds u) e v sf m = absurd (m refl)
+  in-busy (loop b c is u) e v sf m = loop-busy F ok v sf e
   in-busy (exit i vs) e v sf m = absurd (m refl)
 
   step-busy : (x : CfgPoint × BlockLifting) (o : Option CfgPoint) → Step F x o → Busy x

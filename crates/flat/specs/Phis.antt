@@ -149,14 +149,14 @@ module _ (F : Func) (ok : Shaped F) where
 
   in-used : {r n : ℕ} {p : Place} {ns : List ℕ} (d : Node) → nodeOf F n ≡ d → Visited F r p → Suffix (regionOf F r .nodes) (n ∷ ns) → UsedAt (nodeEntry n, inBlock F d n)
   in-used (block is) e v sf m = absurd (m refl)
-  in-used (select k w cs ds) e v sf m = absurd (m refl)
-  in-used {n = n} {ns = ns} (loop b c is) e v sf m = let q = before-node F ok n ns v sf refl in used-once T (q .0) (nodeEntry n) (q .1)
+  in-used (select k w cs ds u) e v sf m = absurd (m refl)
+  in-used {n = n} {ns = ns} (loop b c is u) e v sf m = let q = before-node F ok n ns v sf refl in used-once T (q .0) (nodeEntry n) (q .1)
   in-used (exit i vs) e v sf m = absurd (m refl)
 
   out-used : {r n : ℕ} {p : Place} {ns : List ℕ} (d : Node) (q : CfgPoint) → nodeOf F n ≡ d → Visited F r p → Suffix (regionOf F r .nodes) (n ∷ ns) → UsedAt (nodeExit n, outBlock F d n q)
   out-used (block is) q e v sf m = absurd (m refl)
-  out-used {n = n} (select k w cs ds) q e v sf m = used-once T (nodeEntry n) (nodeExit n) (merge-select F ok v sf e)
-  out-used (loop b c is) q e v sf m = absurd (m refl)
+  out-used {n = n} (select k w cs ds u) q e v sf m = used-once T (nodeEntry n) (nodeExit n) (merge-select F ok v sf e)
+  out-used (loop b c is u) q e v sf m = absurd (m refl)
   out-used (exit i vs) q e v sf m = absurd (m refl)
 
   step-used : (x : CfgPoint × BlockLifting) (o : Option CfgPoint) → Step F x o → UsedAt x

@@ -134,7 +134,7 @@ module _ (F : Func) (ok : Shaped F) where
   exit-visited x o (step-out v sf) c e = absurd (let z : _≡_ {A = ℕ} 0 1 = cc in omega arith)
   exit-visited x o (step-exit {r} {p} v a) c e = let z : r ≡ c = cc in (p, subst (λ (s : ℕ). Visited F s p) z v)
 
-  pub case-exit-gone : (n c : ℕ) {k : SelectionKind} {v : Value} {cs : List ℕ} {ds : List Decl} → nodeOf F n ≡ select k v cs ds → In c cs → endsInExit F (regionOf F c .nodes) ≡ true
+  pub case-exit-gone : (n c : ℕ) {k : SelectionKind} {v : Value} {cs : List ℕ} {ds : List Decl} {u : ℕ} → nodeOf F n ≡ select k v cs ds u → In c cs → endsInExit F (regionOf F c .nodes) ≡ true
       → (i : ℕ) → i < length (walkOf F) → getD (walkOf F) i noPair .0 ≡ regionExit c → statusAt (useCount (walkOf F)) (walkOf F) i ≡ gone
   case-exit-gone n c e j en i h q = case-gone c (case-ends F ok n e j en (exit-visited (at i) _ (chain-at (Step F) T none (walk-steps F ok) i h) c q .1)) i h q
 

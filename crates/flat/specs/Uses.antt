@@ -49,8 +49,8 @@ module _ (F : Func) (ok : Shaped F) where
       (nodeExit m, from-block (laid F ok .out-at v sf) (subst (λ (k : List ℕ). In (nodeEntry n) (nextPoint r k ∷ [])) (sym e) here), λ s z. let o : _≡_ {A = ℕ} 0 1 = cc in omega arith)
 
   -- a select's entry has its exit for a merge label
-  pub merge-select : {r n : ℕ} {p : Place} {ns : List ℕ} {k : SelectionKind} {v : Value} {cs : List ℕ} {ds : List Decl}
-      → Visited F r p → Suffix (regionOf F r .nodes) (n ∷ ns) → nodeOf F n ≡ select k v cs ds → Uses T (nodeEntry n) (nodeExit n)
+  pub merge-select : {r n : ℕ} {p : Place} {ns : List ℕ} {k : SelectionKind} {v : Value} {cs : List ℕ} {ds : List Decl} {u : ℕ}
+      → Visited F r p → Suffix (regionOf F r .nodes) (n ∷ ns) → nodeOf F n ≡ select k v cs ds u → Uses T (nodeEntry n) (nodeExit n)
   merge-select {n = n} v sf e = from-block (laid F ok .in-at v sf ∙ ap (λ (d : Node). inBlock F d n) e) here
 
   -- a root's exit leads to its targets
@@ -60,14 +60,14 @@ module _ (F : Func) (ok : Shaped F) where
   -- every target and merge label of a visited block is visited
   merge-visited : {r n : ℕ} {p : Place} {ns : List ℕ} (d : Node) → nodeOf F n ≡ d → Visited F r p → Suffix (regionOf F r .nodes) (n ∷ ns) → All (λ q. In q (points T)) (mergeLabels (inBlock F d n .term .merge))
   merge-visited (block is) e v sf = tt
-  merge-visited (select k w cs ds) e v sf = (visited-out F ok v sf, tt)
-  merge-visited (loop b c is) e v sf = (visited-out F ok v sf, (visited-exit F ok (in-loop v sf e), tt))
+  merge-visited (select k w cs ds u) e v sf = (visited-out F ok v sf, tt)
+  merge-visited (loop b c is u) e v sf = (visited-out F ok v sf, (visited-exit F ok (in-loop v sf e), tt))
   merge-visited (exit i vs) e v sf = tt
 
   child-merge : (d : Node) (n : ℕ) (vs : List Value) → childTerm F d n vs .merge ≡ noMerge
   child-merge (block is) n vs = refl
-  child-merge (select k v cs ds) n vs = refl
-  child-merge (loop b c is) n vs = by-case (always F c)
+  child-merge (select k v cs ds u) n vs = refl
+  child-merge (loop b c is u) n vs = by-case (always F c)
     where
       by-case : (b : Bool) → loopTerm F b n c vs .merge ≡ noMerge
       by-case true = refl

@@ -15,7 +15,7 @@ use Rattle.words.specs.Part.{part-same, part-at}
 use Rattle.lifting.specs.Lists.{every, gather}
 use Rattle.lifting.specs.Limits.{maxRegions, maxNodes, maxOps, maxConsts, maxParams, maxValues, maxDecls, maxImmediates, maxTargets, withinLimits}
 use Rattle.lifting.specs.Ast.{Value, const, regionInput, nodeOutput, dataInstOutput, Imm, DataInstKind, inst, call, ext, Op, boolCond, spvInst, Decl, Node, block, select, loop, exit, Region, ControlInstKind, unreachable, return, branch, selectBranch, exitInvocation, ControlInst, Func}
-use Rattle.lifting.specs.Parts.{childrenOf, outsOf, nodeValues, nodeInsts, opInsts, ctrlInsts, blockOps, ctrlValues}
+use Rattle.lifting.specs.Parts.{childrenOf, outsOf, mergeControl, nodeValues, nodeInsts, opInsts, ctrlInsts, blockOps, ctrlValues}
 use Rattle.lifting.specs.Parts as text
 use Rattle.func.specs.Lists.{both, every-append, every-gather, every-true, back}
 use Rattle.func.specs.Layout.{poolTotal, consts, params, decls, values, imms, targets, nodeRefs, opRefs, childRefs, entries, regions, nodes, ops, ctrls, room, entryRoom, entry-room}
@@ -96,12 +96,12 @@ region-back {t} fit e r h k =
     λ i. record { ins = a i; nodes = b i; outs = c i }
 
 -- a node from its parts
-node-parts : (n : Node) → nodeFrom (nodeNumber n) (record { opcode = opcodeOf (nodeInsts n); imms = immsOf (nodeInsts n) }) (nodeValues n) (blockOps n) (childrenOf n) (outsOf n) ≡ n
+node-parts : (n : Node) → nodeFrom (nodeNumber n) (record { opcode = opcodeOf (nodeInsts n); imms = immsOf (nodeInsts n) }) (nodeValues n) (blockOps n) (childrenOf n) (outsOf n) (mergeControl n) ≡ n
 unfolding nodeFrom
 node-parts (block is) = refl
-node-parts (select boolCond v cs ds) = refl
-node-parts (select (spvInst i) v cs ds) = ap (λ (l : List Imm). select (spvInst (record { opcode = i .opcode; imms = l })) v cs ds) (append-nil (i .imms))
-node-parts (loop b c vs) = refl
+node-parts (select boolCond v cs ds u) = refl
+node-parts (select (spvInst i) v cs ds u) = ap (λ (l : List Imm). select (spvInst (record { opcode = i .opcode; imms = l })) v cs ds u) (append-nil (i .imms))
+node-parts (loop b c vs u) = refl
 node-parts (exit i vs) = ap (λ (l : List Imm). exit (record { opcode = i .opcode; imms = l }) vs) (append-nil (i .imms))
 
 node-back : {t : List ℕ} → Fit t → (e : List ℕ) (n : Node) → Row t e (nodeCells n) → every kept (nodeValues n) ≡ true → nodeAt t e ≡ n
@@ -112,7 +112,7 @@ node-back {t} fit e n h k =
     let os : numbersAt t opRefs (getD e 4 0) ≡ blockOps n = ap (map numberOf) (h .cell 4 (lit< tt) (fit opRefs (lit< tt)) .is) ∙ numbers-back (blockOps n) in
     let cs : numbersAt t childRefs (getD e 5 0) ≡ childrenOf n = ap (map numberOf) (h .cell 5 (lit< tt) (fit childRefs (lit< tt)) .is) ∙ numbers-back (childrenOf n) in
     let ds : declsAt t (getD e 6 0) ≡ outsOf n = ap (map declOf) (h .cell 6 (lit< tt) (fit decls (lit< tt)) .is) ∙ decls-back (outsOf n) in
-    (λ i. nodeFrom (h .cell 0 (lit< tt) i) (record { opcode = h .cell 1 (lit< tt) i; imms = is i }) (vs i) (os i) (cs i) (ds i)) ∙ node-parts n
+    (λ i. nodeFrom (h .cell 0 (lit< tt) i) (record { opcode = h .cell 1 (lit< tt) i; imms = is i }) (vs i) (os i) (cs i) (ds i) (h .cell 7 (lit< tt) i)) ∙ node-parts n
 
 op-parts : (k : DataInstKind) → opFrom (opNumber k) (record { opcode = opFirst k; imms = immsOf (opInsts k) }) (opSecond k) ≡ k
 unfolding opFrom

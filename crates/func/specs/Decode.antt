@@ -56,12 +56,12 @@ otherValues [] = []
 otherValues (v ∷ vs) = vs
 
 -- the kinds, from their numbers
-unfoldable pub nodeFrom : ℕ → Inst → List Value → List ℕ → List ℕ → List Decl → Node
-nodeFrom zero i vs os cs ds = block os
-nodeFrom (suc zero) i vs os cs ds = select boolCond (firstValue vs) cs ds
-nodeFrom (suc (suc zero)) i vs os cs ds = select (spvInst i) (firstValue vs) cs ds
-nodeFrom (suc (suc (suc zero))) i vs os cs ds = loop (getD cs 0 0) (firstValue vs) (otherValues vs)
-nodeFrom (suc (suc (suc (suc k)))) i vs os cs ds = exit i vs
+unfoldable pub nodeFrom : ℕ → Inst → List Value → List ℕ → List ℕ → List Decl → ℕ → Node
+nodeFrom zero i vs os cs ds u = block os
+nodeFrom (suc zero) i vs os cs ds u = select boolCond (firstValue vs) cs ds u
+nodeFrom (suc (suc zero)) i vs os cs ds u = select (spvInst i) (firstValue vs) cs ds u
+nodeFrom (suc (suc (suc zero))) i vs os cs ds u = loop (getD cs 0 0) (firstValue vs) (otherValues vs) u
+nodeFrom (suc (suc (suc (suc k)))) i vs os cs ds u = exit i vs
 
 unfoldable pub opFrom : ℕ → Inst → ℕ → DataInstKind
 opFrom zero i n = inst i
@@ -83,7 +83,7 @@ regionAt w e = record { ins = declsAt w (getD e 0 0); nodes = numbersAt w nodeRe
 unfoldable pub nodeAt : List ℕ → List ℕ → Node
 nodeAt w e =
     nodeFrom (getD e 0 0) (instAt w (getD e 1 0) (getD e 2 0)) (valuesAt w (getD e 3 0)) (numbersAt w opRefs (getD e 4 0)) (numbersAt w childRefs (getD e 5 0))
-    (declsAt w (getD e 6 0))
+    (declsAt w (getD e 6 0)) (getD e 7 0)
 
 unfoldable pub opAt : List ℕ → List ℕ → Op
 opAt w e = record {

@@ -31,7 +31,7 @@ example = record {
       ∷ record { ins = []; nodes = 2 ∷ 3 ∷ []; outs = const 0 ∷ regionInput 0 0 ∷ [] }
       ∷ record { ins = decl 1 4 ∷ decl 2 4 ∷ []; nodes = []; outs = nodeOutput 1 1 ∷ [] }
       ∷ [];
-  nodes = block (0 ∷ 2 ∷ []) ∷ select boolCond (const 0) (1 ∷ 2 ∷ []) (decl 0 4 ∷ decl 9 4 ∷ []) ∷ loop 1 (dataInstOutput 2) (const 0 ∷ []) ∷ exit switch (const 0 ∷ []) ∷ select (spvInst switch) (const 0) (2 ∷ []) [] ∷ [];
+  nodes = block (0 ∷ 2 ∷ []) ∷ select boolCond (const 0) (1 ∷ 2 ∷ []) (decl 0 4 ∷ decl 9 4 ∷ []) 2 ∷ loop 1 (dataInstOutput 2) (const 0 ∷ []) 1 ∷ exit switch (const 0 ∷ []) ∷ select (spvInst switch) (const 0) (2 ∷ []) [] 0 ∷ [];
   ops = record { attrs = 0; type = 4; kind = inst switch; operands = const 0 ∷ const 0 ∷ [] } ∷ record { attrs = 1; type = 0; kind = call 17; operands = [] } ∷ record { attrs = 0; type = 4; kind = ext 18 19; operands = dataInstOutput 0 ∷ [] } ∷ [];
   ctrls = (0, record { attrs = 0; kind = selectBranch (spvInst switch); ins = const 0 ∷ []; to = 1 ∷ 2 ∷ []; vals = (2, const 0 ∷ regionInput 0 0 ∷ []) ∷ (1, []) ∷ [] })
       ∷ (1, record { attrs = 3; kind = return; ins = dataInstOutput 0 ∷ []; to = []; vals = [] })

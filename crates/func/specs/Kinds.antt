@@ -42,9 +42,9 @@ asImm i = record { kind = i .kind; operand = i .operand; word = i .word }
 -- a node's kind
 abbrev pub nodeKind : Node → NodeKind
 nodeKind (block is) = Block
-nodeKind (select boolCond v cs ds) = SelectBool
-nodeKind (select (spvInst i) v cs ds) = SelectInst
-nodeKind (loop b c vs) = Loop
+nodeKind (select boolCond v cs ds u) = SelectBool
+nodeKind (select (spvInst i) v cs ds u) = SelectInst
+nodeKind (loop b c vs u) = Loop
 nodeKind (exit i vs) = Exit
 
 abbrev pub nodeKindNumber : NodeKind → ℕ
@@ -63,16 +63,16 @@ nodeKindFrom (suc (suc (suc (suc k)))) = Exit
 
 pub node-kind : (n : Node) → nodeKindFrom (nodeNumber n) ≡ nodeKind n
 node-kind (block is) = refl
-node-kind (select boolCond v cs ds) = refl
-node-kind (select (spvInst i) v cs ds) = refl
-node-kind (loop b c vs) = refl
+node-kind (select boolCond v cs ds u) = refl
+node-kind (select (spvInst i) v cs ds u) = refl
+node-kind (loop b c vs u) = refl
 node-kind (exit i vs) = refl
 
 pub node-number : (n : Node) → nodeKindNumber (nodeKind n) ≡ nodeNumber n
 node-number (block is) = refl
-node-number (select boolCond v cs ds) = refl
-node-number (select (spvInst i) v cs ds) = refl
-node-number (loop b c vs) = refl
+node-number (select boolCond v cs ds u) = refl
+node-number (select (spvInst i) v cs ds u) = refl
+node-number (loop b c vs u) = refl
 node-number (exit i vs) = refl
 
 -- an op's kind

@@ -91,7 +91,7 @@ shapes =
     ∷ (1, maxRegions)
     ∷ (2, maxTargets)
     ∷ (3, maxRegions)
-    ∷ (7, maxNodes)
+    ∷ (8, maxNodes)
     ∷ (7, maxOps)
     ∷ (8, maxRegions)
     ∷ []
@@ -222,7 +222,7 @@ spot k i b v l h e q =
 
 -- the widths and the rooms, as numbers that compute wherever they stand
 abbrev pub entryWords : ℕ → ℕ
-entryWords k = getD (2 ∷ 2 ∷ 2 ∷ 2 ∷ 3 ∷ 1 ∷ 1 ∷ 1 ∷ 1 ∷ 2 ∷ 3 ∷ 7 ∷ 7 ∷ 8 ∷ []) k 0
+entryWords k = getD (2 ∷ 2 ∷ 2 ∷ 2 ∷ 3 ∷ 1 ∷ 1 ∷ 1 ∷ 1 ∷ 2 ∷ 3 ∷ 8 ∷ 7 ∷ 8 ∷ []) k 0
 
 pub entry-words : (k : ℕ) → entryWords k ≡ width k
 unfolding width poolOf pools shapes lay

@@ -4,7 +4,7 @@ use mathlib.Core.Path.{_≡_, refl}
 use mathlib.Core.List.{List, [], _∷_, map}
 use Prim.Native.Nat.{ℕ}
 use Rattle.lifting.specs.Ast.{Value, Op, Node, Region, ControlInst}
-use Rattle.lifting.specs.Parts.{childrenOf, outsOf, nodeValues, nodeInsts, opInsts, ctrlInsts, blockOps}
+use Rattle.lifting.specs.Parts.{childrenOf, outsOf, mergeControl, nodeValues, nodeInsts, opInsts, ctrlInsts, blockOps}
 use Rattle.func.specs.declared.OpKind.{OpKind}
 use Rattle.func.specs.declared.Marks.{Marks}
 use Rattle.func.specs.Layout.{decls, values, imms, targets, nodeRefs, opRefs, childRefs, entries, regions, nodes, ops, ctrls}
@@ -30,8 +30,8 @@ marksOf w = record {
 unfoldable pub regionRow : Marks → List ℕ → List ℕ
 regionRow m v = push regions (span (m .decls) (count decls v) ∷ span (m .nodes) (count nodeRefs v) ∷ span (m .values) (count values v) ∷ []) v
 
-unfoldable pub nodeRow : Marks → ℕ → ℕ → List ℕ → List ℕ
-nodeRow m kind opcode v =
+unfoldable pub nodeRow : Marks → ℕ → ℕ → ℕ → List ℕ → List ℕ
+nodeRow m kind opcode control v =
     push nodes
     (kind
     ∷ opcode
@@ -40,6 +40,7 @@ nodeRow m kind opcode v =
     ∷ span (m .ops) (count opRefs v)
     ∷ span (m .children) (count childRefs v)
     ∷ span (m .decls) (count decls v)
+    ∷ control
     ∷ [])
     v
 
@@ -76,7 +77,7 @@ pub keepRegion-is : (r : Region) (w : List ℕ) → keepRegion r w ≡ regionRow
 unfolding keepRegion keepLine regionCells keepCells rowOf regionRow
 keepRegion-is r w = simp folds-map
 
-pub keepNode-is : (n : Node) (w : List ℕ) → keepNode n w ≡ nodeRow (marksOf w) (nodeNumber n) (opcodeOf (nodeInsts n))
+pub keepNode-is : (n : Node) (w : List ℕ) → keepNode n w ≡ nodeRow (marksOf w) (nodeNumber n) (opcodeOf (nodeInsts n)) (mergeControl n)
     (folds keepDecl (outsOf n) (folds keepChild (childrenOf n) (folds keepOpRef (blockOps n) (folds keepValue (nodeValues n) (folds keepImm (immsOf (nodeInsts n)) w)))))
 unfolding keepNode keepLine nodeCells keepCells rowOf nodeRow
 keepNode-is n w = simp folds-map

@@ -233,6 +233,10 @@ module _ {w : List ℕ} (t : Tables w) (n : ℕ) (h : n < length (funcOf w .node
   unfolding nodeCells
   node-opcode-is = node-at t n h .cell 1 (lit< tt)
 
+  pub node-control-is : word nodes w n 7 ≡ text.mergeControl (text.nodeOf (funcOf w) n)
+  unfolding nodeCells
+  node-control-is = node-at t n h .cell 7 (lit< tt)
+
   pub node-imms : Listed imms immWords (immsOf (nodeInsts (text.nodeOf (funcOf w) n))) w (word nodes w n 2)
   unfolding nodeCells
   node-imms = record { size = t .size; fits = t .counts imms (lit< tt); pool = lit< tt; piece = node-at t n h .cell 2 (lit< tt) (t .counts imms (lit< tt)) }

@@ -215,10 +215,10 @@ pub fn region_row(func: &mut [u32], from: Marks)
     push(func, REGIONS, &[a, b, c]);
 }
 
-// The row of a node: its kind, its opcode (0 without an INST), its lists.
-pub fn node_row(func: &mut [u32], from: Marks, kind: NodeKind, opcode: u32)
+// The row of a node: its kind, its opcode (0 without an INST), its lists, the control number of its merge (0 without one).
+pub fn node_row(func: &mut [u32], from: Marks, kind: NodeKind, opcode: u32, control: u32)
     requires { ⌜ scratchWords ≤ length (now func) ⌝ }
-    ensures { λ _. ⌜ now (func .exit) ≡ nodeRow from (nodeKindNumber kind) opcode (now (func .entry)) ⌝ }
+    ensures { λ _. ⌜ now (func .exit) ≡ nodeRow from (nodeKindNumber kind) opcode control (now (func .entry)) ⌝ }
     ensures { λ _. ⌜ length (now (func .exit)) ≡ length (now (func .entry)) ⌝ }
 {
     let k = node_number(kind);
@@ -227,7 +227,7 @@ pub fn node_row(func: &mut [u32], from: Marks, kind: NodeKind, opcode: u32)
     let c = run(func, OP_REFS, from.ops);
     let d = run(func, CHILD_REFS, from.children);
     let e = run(func, DECLS, from.decls);
-    push(func, NODES, &[k, opcode, a, b, c, d, e]);
+    push(func, NODES, &[k, opcode, a, b, c, d, e, control]);
 }
 
 // The row of an op.

@@ -125,6 +125,14 @@ pub fn row_opcode(func: &[u32], n: usize) -> u32
     word(func, NODES, n, 1)
 }
 
+// The control number of node n's merge, 0 without one.
+pub fn row_control(func: &[u32], n: usize) -> u32
+    requires { ⌜ Within nodes (now func) n ⌝ }
+    ensures { λ x. ⌜ x ≡ word nodes (now (func .entry)) n 7 ⌝ }
+{
+    word(func, NODES, n, 7)
+}
+
 // How many values node n reads.
 pub fn row_values(func: &[u32], n: usize) -> usize
     requires { ⌜ Within nodes (now func) n ⌝ }

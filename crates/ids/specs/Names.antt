@@ -187,8 +187,8 @@ module _ (F : Func) (ok : Walkable F) where
 
   in-run : (n : ℕ) (d : Node) → nodeOf F n ≡ d → KeyRun F (inputIdsAt + getD (childrenOf d) 0 0) (inBlock F d n .keys)
   in-run n (block is) e = no-keys
-  in-run n (select k v cs ds) e = no-keys
-  in-run n (loop b c is) e = inputs (ok .shaped .forest .child-range n b (subst (λ (d : Node). In b (childrenOf d)) (sym e) here)) refl
+  in-run n (select k v cs ds u) e = no-keys
+  in-run n (loop b c is u) e = inputs (ok .shaped .forest .child-range n b (subst (λ (d : Node). In b (childrenOf d)) (sym e) here)) refl
   in-run n (exit i vs) e = no-keys
 
   point-run : (p q : CfgPoint) → InText F p → KeyRun F (keyWord F p) (blockOf F p q .keys)
@@ -269,8 +269,8 @@ module _ (F : Func) where
 
   in-ops : (n : ℕ) (d : Node) → inBlock F d n .ops ≡ blockOps d
   in-ops n (block is) = refl
-  in-ops n (select k v cs ds) = refl
-  in-ops n (loop b c is) = refl
+  in-ops n (select k v cs ds u) = refl
+  in-ops n (loop b c is u) = refl
   in-ops n (exit i vs) = refl
 
   point-ops : (p q : CfgPoint) → blockOf F p q .ops ≡ opsAt p

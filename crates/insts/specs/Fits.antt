@@ -42,8 +42,8 @@ module _ (F : Func) (refs : Refers F) where
 
   child-named : (d : Node) (n : ℕ) (vs : List Value) → All (Named F) (nodeValues d) → All (Named F) (childTerm F d n vs .ins)
   child-named (block is) n vs h = tt
-  child-named (select k v cs ds) n vs h = tt
-  child-named (loop b c is) n vs h = loop-named (always F c) n c vs (h .0)
+  child-named (select k v cs ds u) n vs h = tt
+  child-named (loop b c is u) n vs h = loop-named (always F c) n c vs (h .0)
   child-named (exit i ws) n vs h = tt
 
   exit-named : (r : ℕ) (p : Place) → All (Named F) (exitTerm F r p .ins)
@@ -52,8 +52,8 @@ module _ (F : Func) (refs : Refers F) where
 
   in-named : (d : Node) (n : ℕ) → All (Named F) (nodeValues d) → All (Named F) (inBlock F d n .term .ins)
   in-named (block is) n h = tt
-  in-named (select k v cs ds) n h = h
-  in-named (loop b c is) n h = tt
+  in-named (select k v cs ds u) n h = h
+  in-named (loop b c is u) n h = tt
   in-named (exit i vs) n h = h
 
   block-named : (p q : CfgPoint) → All (Named F) (blockOf F p q .term .ins)
@@ -78,8 +78,8 @@ opsOf F (nodeExit n) = []
 
 in-ops : (F : Func) (d : Node) (n : ℕ) → inBlock F d n .ops ≡ blockOps d
 in-ops F (block is) n = refl
-in-ops F (select k v cs ds) n = refl
-in-ops F (loop b c is) n = refl
+in-ops F (select k v cs ds u) n = refl
+in-ops F (loop b c is u) n = refl
 in-ops F (exit i vs) n = refl
 
 block-ops : (F : Func) (p q : CfgPoint) → blockOf F p q .ops ≡ opsOf F p

@@ -11,7 +11,7 @@ use Rattle.opcodes.specs.declared.InstKind.the-variants.{Label, LoopMerge, Phi,
 use Rattle.lifting.specs.Lists.{gather}
 use Rattle.lifting.specs.Ast.{Decl, Func, Imm, Value}
 use Rattle.lifting.specs.Parts.{calleeIds, opOf}
-use Rattle.lifting.specs.Points.{CfgPoint, Merge, Table, Terminator, loopMerge, noMerge, regionEntry, selectionMerge}
+use Rattle.lifting.specs.Points.{CfgPoint, Merge, Table, Terminator, loopMerge, mergeNumber, noMerge, regionEntry, selectionMerge}
 use Rattle.lifting.specs.Walk.{walkOf}
 use Rattle.lifting.specs.Absorb.{kept, mergeLabels}
 use Rattle.lifting.specs.Ids.{idOf, labelOf}
@@ -130,24 +130,24 @@ module _ (F : Func) (first : ℕ) (T K : Table) where
   pub merge-none : (g : Merge) → length (mergeLabels g) ≡ 0 → [] ≡ listItems (mergeInsts F first T K g)
   unfolding mergeInsts listItems
   merge-none noMerge e = refl
-  merge-none (selectionMerge a) e = absurd (omega arith)
-  merge-none (loopMerge a b) e = absurd (omega arith)
+  merge-none (selectionMerge a u) e = absurd (omega arith)
+  merge-none (loopMerge a b u) e = absurd (omega arith)
 
   pub merge-one : (g : Merge) → length (mergeLabels g) ≡ 1
-      → frontItems (opcodeOf SelectionMerge) 0 0 0 (short selectionControl 0) 1 ++ labelItems (getD (mergeLabels g) 0 (regionEntry 0) ∷ []) ≡ listItems (mergeInsts F first T K g)
+      → frontItems (opcodeOf SelectionMerge) 0 0 0 (short selectionControl (mergeNumber g)) 1 ++ labelItems (getD (mergeLabels g) 0 (regionEntry 0) ∷ []) ≡ listItems (mergeInsts F first T K g)
   unfolding mergeInsts listItems
   merge-one noMerge e = absurd (omega arith)
-  merge-one (selectionMerge a) e = sym (append-nil _ ∙ inst-front (bare (opcodeOf SelectionMerge) (short selectionControl 0) (labelOf F first T K a ∷ [])))
-  merge-one (loopMerge a b) e = absurd (omega arith)
+  merge-one (selectionMerge a u) e = sym (append-nil _ ∙ inst-front (bare (opcodeOf SelectionMerge) (short selectionControl u) (labelOf F first T K a ∷ [])))
+  merge-one (loopMerge a b u) e = absurd (omega arith)
 
   pub merge-two : (g : Merge) → ¬ (length (mergeLabels g) ≡ 0) → ¬ (length (mergeLabels g) ≡ 1)
-      → frontItems (opcodeOf LoopMerge) 0 0 0 (short loopControl 0) 2
+      → frontItems (opcodeOf LoopMerge) 0 0 0 (short loopControl (mergeNumber g)) 2
       ++ (labelItems (getD (mergeLabels g) 0 (regionEntry 0) ∷ []) ++ labelItems (getD (mergeLabels g) 1 (regionEntry 0) ∷ []))
       ≡ listItems (mergeInsts F first T K g)
   unfolding mergeInsts listItems
   merge-two noMerge z o = absurd (z refl)
-  merge-two (selectionMerge a) z o = absurd (o refl)
-  merge-two (loopMerge a b) z o = sym (append-nil _ ∙ inst-front (bare (opcodeOf LoopMerge) (short loopControl 0) (labelOf F first T K a ∷ labelOf F first T K b ∷ [])))
+  merge-two (selectionMerge a u) z o = absurd (o refl)
+  merge-two (loopMerge a b u) z o = sym (append-nil _ ∙ inst-front (bare (opcodeOf LoopMerge) (short loopControl u) (labelOf F first T K a ∷ labelOf F first T K b ∷ [])))
 
   pub phi-is : (q : CfgPoint) (v : Value) (d : Decl) (j : ℕ)
       → frontItems (opcodeOf Phi) (d .attrs) (d .type) (idOf F first T K v) [] (length (pairs F first T K K q j)) ++ map id (pairs F first T K K q j) ≡ instItems (phiInst F first T K q v d j)

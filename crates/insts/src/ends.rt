@@ -15,6 +15,7 @@ use put::Cursor;
 use put::put_id;
 use term::Way;
 use term::parts::merge;
+use term::parts::merge_control;
 use term::parts::merges;
 use term::parts::targets;
 use term::ways::way;
@@ -103,6 +104,7 @@ fn put_merge(
     if count == 0 {
         return c;
     }
+    let u = merge_control(w);
     if count == 1 {
         let a = put_front(
             func,
@@ -112,7 +114,7 @@ fn put_merge(
             0,
             0,
             0,
-            Imms::Short(SELECTION_CONTROL, 0),
+            Imms::Short(SELECTION_CONTROL, u),
             1,
         );
         return put_merge_label(func, work, out, a, m, first, w, 0);
@@ -125,7 +127,7 @@ fn put_merge(
         0,
         0,
         0,
-        Imms::Short(LOOP_CONTROL, 0),
+        Imms::Short(LOOP_CONTROL, u),
         2,
     );
     let d = put_merge_label(func, work, out, b, m, first, w, 0);

@@ -10,8 +10,8 @@ use Rattle.lifting.specs.Points.{CfgPoint, eqPoint, Merge, noMerge, sele
 
 abbrev pub mergeLabels : Merge → List CfgPoint
 mergeLabels noMerge = []
-mergeLabels (selectionMerge a) = a ∷ []
-mergeLabels (loopMerge a b) = a ∷ b ∷ []
+mergeLabels (selectionMerge a u) = a ∷ []
+mergeLabels (loopMerge a b u) = a ∷ b ∷ []
 
 abbrev pub labels : Terminator → List CfgPoint
 labels t = mergeLabels (t .merge) ++ t .targets
@@ -54,8 +54,8 @@ ifEmpty (x ∷ l) o = none
 
 abbrev pub ifNoMerge : Merge → Option CfgPoint → Option CfgPoint
 ifNoMerge noMerge o = o
-ifNoMerge (selectionMerge a) o = none
-ifNoMerge (loopMerge a b) o = none
+ifNoMerge (selectionMerge a u) o = none
+ifNoMerge (loopMerge a b u) o = none
 
 abbrev pub single : List CfgPoint → Option CfgPoint
 single [] = none

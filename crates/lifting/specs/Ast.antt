@@ -50,11 +50,12 @@ pub record Decl : Type 0 where
   pub attrs : ℕ
   pub type : ℕ
 
--- nodes: `(block I..)`, `(select K V (cases R..) (outs (A T)..))`, `(loop R V (init V..))`, `(exit INST V..)`.
+-- nodes: `(block I..)`, `(select K V (cases R..) (outs (A T)..) U)`, `(loop R V (init V..) U)`, `(exit INST V..)`.
+-- `(select ..)` and `(loop ..)` end in one more number (document 02, W4): U is 0 none, 1 unroll or flatten, 2 don't.
 pub data Node : Type 0 where
   block : List ℕ → Node
-  select : SelectionKind → Value → List ℕ → List Decl → Node
-  loop : ℕ → Value → List Value → Node
+  select : SelectionKind → Value → List ℕ → List Decl → ℕ → Node
+  loop : ℕ → Value → List Value → ℕ → Node
   exit : Inst → List Value → Node
 
 -- `(region (in (A T)..) (nodes N..) (out V..))`.

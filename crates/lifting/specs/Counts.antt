@@ -17,8 +17,8 @@ casesFit (spvInst i) n = ltb 0 n
 -- W2: 'a case whose last node is an exit'. The last by its region's list is itself an exit node.
 abbrev pub isExit : Node → Bool
 isExit (block is) = false
-isExit (select k v cs ds) = false
-isExit (loop b c vs) = false
+isExit (select k v cs ds u) = false
+isExit (loop b c vs u) = false
 isExit (exit i vs) = true
 
 abbrev pub endsInExit : Func → List ℕ → Bool
@@ -33,9 +33,9 @@ outsFit F c n = eqb (length (regionOf F c .outs)) n || (eqb (length (regionOf F 
 -- a loop's inits, its body's inputs, its body's outputs; case outputs and outs; a case with inputs
 abbrev pub nodeFits : Func → Node → Bool
 nodeFits F (block is) = true
-nodeFits F (select k v cs ds) =
+nodeFits F (select k v cs ds u) =
     every (λ c. eqb (length (regionOf F c .ins)) 0 && outsFit F c (length ds)) cs && casesFit k (length cs)
-nodeFits F (loop b c vs) =
+nodeFits F (loop b c vs u) =
     eqb (length vs) (length (regionOf F b .ins)) && eqb (length (regionOf F b .outs)) (length (regionOf F b .ins))
 nodeFits F (exit i vs) = true
 

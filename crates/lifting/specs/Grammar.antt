@@ -263,13 +263,13 @@ regionLine =
 unfoldable pub blockLine : Codec (List ℕ)
 blockLine = line "block" numbers
 
--- `(select K V (cases R..) (outs (A T)..))`
-unfoldable pub selectLine : Codec (SelectionKind × (Value × (List ℕ × List Decl)))
-selectLine = line "select" (closed (seq selKind (seq value (seq (sub "cases" numbers) (sub "outs" decls)))))
+-- `(select K V (cases R..) (outs (A T)..) U)`
+unfoldable pub selectLine : Codec (SelectionKind × ((Value × (List ℕ × List Decl)) × ℕ))
+selectLine = line "select" (closed (seq selKind (seq (seq value (seq (sub "cases" numbers) (sub "outs" decls))) field)))
 
--- `(loop R V (init V..))`
-unfoldable pub loopLine : Codec (ℕ × (Value × List Value))
-loopLine = line "loop" (closed (seq field (seq value (sub "init" values))))
+-- `(loop R V (init V..) U)`
+unfoldable pub loopLine : Codec (ℕ × ((Value × List Value) × ℕ))
+loopLine = line "loop" (closed (seq field (seq (seq value (sub "init" values)) field)))
 
 -- `(exit INST V..)`
 unfoldable pub exitLine : Codec (Inst × List Value)
@@ -277,24 +277,24 @@ exitLine = line "exit" (seq instForm values)
 
 -- nodes: one of these four
 abbrev pub NodeForm : Type 0
-NodeForm = ((List ℕ ⊎ (SelectionKind × (Value × (List ℕ × List Decl)))) ⊎ (ℕ × (Value × List Value))) ⊎ (Inst × List Value)
+NodeForm = ((List ℕ ⊎ (SelectionKind × ((Value × (List ℕ × List Decl)) × ℕ))) ⊎ (ℕ × ((Value × List Value) × ℕ))) ⊎ (Inst × List Value)
 
 abbrev toNode : NodeForm → Node
 toNode (inl (inl (inl x))) = block x
-toNode (inl (inl (inr x))) = select (x .0) (x .1 .0) (x .1 .1 .0) (x .1 .1 .1)
-toNode (inl (inr x)) = loop (x .0) (x .1 .0) (x .1 .1)
+toNode (inl (inl (inr x))) = select (x .0) (x .1 .0 .0) (x .1 .0 .1 .0) (x .1 .0 .1 .1) (x .1 .1)
+toNode (inl (inr x)) = loop (x .0) (x .1 .0 .0) (x .1 .0 .1) (x .1 .1)
 toNode (inr x) = exit (x .0) (x .1)
 
 abbrev ofNode : Node → NodeForm
 ofNode (block x) = inl (inl (inl x))
-ofNode (select k v r o) = inl (inl (inr (k, (v, (r, o)))))
-ofNode (loop r v i) = inl (inr (r, (v, i)))
+ofNode (select k v r o u) = inl (inl (inr (k, ((v, (r, o)), u))))
+ofNode (loop r v i u) = inl (inr (r, ((v, i), u)))
 ofNode (exit i v) = inr (i, v)
 
 pub node-to-of : (n : Node) → toNode (ofNode n) ≡ n
 node-to-of (block x) = refl
-node-to-of (select k v r o) = refl
-node-to-of (loop r v i) = refl
+node-to-of (select k v r o u) = refl
+node-to-of (loop r v i u) = refl
 node-to-of (exit i v) = refl
 
 pub node-of-to : (x : NodeForm) → ofNode (toNode x) ≡ x
@@ -358,8 +358,8 @@ nodeLines = many nodeLine opLines node-apart
 pub region-node : (n : Node) (r : List ℕ) → regionLine .read (nodeLine .print n ++ r) ≡ none
 unfolding regionLine nodeLine nodeForm blockLine selectLine loopLine exitLine line before lit seq same view alt strip
 region-node (block x) r = refl
-region-node (select k v c o) r = refl
-region-node (loop n v i) r = refl
+region-node (select k v c o u) r = refl
+region-node (loop n v i u) r = refl
 region-node (exit i v) r = refl
 
 pub region-apart : (b : Nodes) (r : Unit {0}) → regionLine .read (nodeLines .print b ++ []) ≡ none

@@ -110,12 +110,12 @@ module _ (F : Func) (first : ℕ) (T K : Table) where
     ids = calleeIds (opOf F i .kind) ++ map (idOf F first T K) (opOf F i .operands);
   }
 
-  -- Merges carry one short immediate of word 0.
+  -- Merges carry one short immediate: the control number (document 02, W4).
   unfoldable pub mergeInsts : Merge → List Instruction
   unfolding labelOf
   mergeInsts noMerge = []
-  mergeInsts (selectionMerge a) = bare (opcodeOf SelectionMerge) (short selectionControl 0) (labelOf F first T K a ∷ []) ∷ []
-  mergeInsts (loopMerge a b) = bare (opcodeOf LoopMerge) (short loopControl 0) (labelOf F first T K a ∷ labelOf F first T K b ∷ []) ∷ []
+  mergeInsts (selectionMerge a u) = bare (opcodeOf SelectionMerge) (short selectionControl u) (labelOf F first T K a ∷ []) ∷ []
+  mergeInsts (loopMerge a b u) = bare (opcodeOf LoopMerge) (short loopControl u) (labelOf F first T K a ∷ labelOf F first T K b ∷ []) ∷ []
 
   unfoldable pub termInst : Terminator → Instruction
   unfolding idOf labelOf

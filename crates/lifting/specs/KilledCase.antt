@@ -23,13 +23,13 @@ use Rattle.lifting.specs.Witness.{orEmpty, world, done, Comes}
 -- (region (in (0 4)) (nodes 1 2) (out (n 2 0)))
 -- (region (in) (nodes) (out (c 1)))
 -- (region (in) (nodes 3) (out))
--- (loop 1 (d 0) (init (c 0)))
+-- (loop 1 (d 0) (init (c 0)) 0)
 -- (block 0)
--- (select bool (d 0) (cases 2 3) (outs (0 4)))
+-- (select bool (d 0) (cases 2 3) (outs (0 4)) 0)
 -- (exit (inst 252) (r 1 0))
 -- (op 0 4 (inst 128) (r 1 0))
 unfoldable pub text : List ℕ
-text = bytes "(func 0 2 3 0)\n(const 5 43)\n(const 6 43)\n(region (in) (nodes 0) (out))\n(region (in (0 4)) (nodes 1 2) (out (n 2 0)))\n(region (in) (nodes) (out (c 1)))\n(region (in) (nodes 3) (out))\n(loop 1 (d 0) (init (c 0)))\n(block 0)\n(select bool (d 0) (cases 2 3) (outs (0 4)))\n(exit (inst 252) (r 1 0))\n(op 0 4 (inst 128) (r 1 0))\n"
+text = bytes "(func 0 2 3 0)\n(const 5 43)\n(const 6 43)\n(region (in) (nodes 0) (out))\n(region (in (0 4)) (nodes 1 2) (out (n 2 0)))\n(region (in) (nodes) (out (c 1)))\n(region (in) (nodes 3) (out))\n(loop 1 (d 0) (init (c 0)) 0)\n(block 0)\n(select bool (d 0) (cases 2 3) (outs (0 4)) 0)\n(exit (inst 252) (r 1 0))\n(op 0 4 (inst 128) (r 1 0))\n"
 
 -- the phi of the select, id 12, has one pair, from block 17; block 18 exits
 unfoldable pub writtenWords : List ℕ

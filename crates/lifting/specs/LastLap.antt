@@ -20,11 +20,11 @@ use Rattle.lifting.specs.Witness.{orEmpty, world, done, Comes}
 -- (const 5 43)
 -- (region (in) (nodes 0 1) (out (d 0)))
 -- (region (in (0 4)) (nodes) (out (d 0)))
--- (loop 1 (c 0) (init (c 0)))
+-- (loop 1 (c 0) (init (c 0)) 0)
 -- (block 0)
 -- (op 0 4 (inst 128) (r 1 0))
 unfoldable pub text : List ℕ
-text = bytes "(func 0 2 3 0)\n(const 5 43)\n(region (in) (nodes 0 1) (out (d 0)))\n(region (in (0 4)) (nodes) (out (d 0)))\n(loop 1 (c 0) (init (c 0)))\n(block 0)\n(op 0 4 (inst 128) (r 1 0))\n"
+text = bytes "(func 0 2 3 0)\n(const 5 43)\n(region (in) (nodes 0 1) (out (d 0)))\n(region (in (0 4)) (nodes) (out (d 0)))\n(loop 1 (c 0) (init (c 0)) 0)\n(block 0)\n(op 0 4 (inst 128) (r 1 0))\n"
 
 unfoldable pub writtenWords : List ℕ
 writtenWords = 54 ∷ 0 ∷ 2 ∷ 10 ∷ 1 ∷ 0 ∷ 1 ∷ 0 ∷ 1 ∷ 3 ∷ 248 ∷ 0 ∷ 0 ∷ 13 ∷ 0 ∷ 0 ∷ 249 ∷ 0 ∷ 0 ∷ 0 ∷ 0 ∷ 1 ∷ 14 ∷ 248 ∷ 0 ∷ 0 ∷ 14 ∷ 0 ∷ 0 ∷ 245 ∷ 0 ∷ 4 ∷ 11 ∷ 0 ∷ 4 ∷ 5 ∷ 13 ∷ 12 ∷ 16 ∷ 246 ∷ 0 ∷ 0 ∷ 0 ∷ 1 ∷ 0 ∷ 3 ∷ 0 ∷ 2 ∷ 17 ∷ 16 ∷ 249 ∷ 0 ∷ 0 ∷ 0 ∷ 0 ∷ 1 ∷ 15 ∷ 248 ∷ 0 ∷ 0 ∷ 15 ∷ 0 ∷ 0 ∷ 249 ∷ 0 ∷ 0 ∷ 0 ∷ 0 ∷ 1 ∷ 16 ∷ 248 ∷ 0 ∷ 0 ∷ 16 ∷ 0 ∷ 0 ∷ 250 ∷ 0 ∷ 0 ∷ 0 ∷ 0 ∷ 3 ∷ 5 ∷ 14 ∷ 17 ∷ 248 ∷ 0 ∷ 0 ∷ 17 ∷ 0 ∷ 0 ∷ 128 ∷ 0 ∷ 4 ∷ 12 ∷ 0 ∷ 1 ∷ 11 ∷ 254 ∷ 0 ∷ 0 ∷ 0 ∷ 0 ∷ 1 ∷ 12 ∷ 56 ∷ 0 ∷ 0 ∷ 0 ∷ 0 ∷ 0 ∷ []

@@ -34,15 +34,22 @@ hasBody (r ∷ rs) = true
 -- the regions of a node, and its outputs
 abbrev pub childrenOf : Node → List ℕ
 childrenOf (block is) = []
-childrenOf (select k v cs ds) = cs
-childrenOf (loop b c vs) = b ∷ []
+childrenOf (select k v cs ds u) = cs
+childrenOf (loop b c vs u) = b ∷ []
 childrenOf (exit i vs) = []
 
 abbrev pub outsOf : Node → List Decl
 outsOf (block is) = []
-outsOf (select k v cs ds) = ds
-outsOf (loop b c vs) = []
+outsOf (select k v cs ds u) = ds
+outsOf (loop b c vs u) = []
 outsOf (exit i vs) = []
+
+-- the control number of its merge (document 02, W4), and 0 where it has no merge
+abbrev pub mergeControl : Node → ℕ
+mergeControl (block is) = 0
+mergeControl (select k v cs ds u) = u
+mergeControl (loop b c vs u) = u
+mergeControl (exit i vs) = 0
 
 -- the inputs of a region and the outputs of a node, as values
 abbrev pub insKeys : Func → ℕ → List Value
@@ -62,8 +69,8 @@ valsFor c r = valsOr (find ℕ-discrete r (c .vals)) []
 -- every V form, wherever it stands
 abbrev pub nodeValues : Node → List Value
 nodeValues (block is) = []
-nodeValues (select k v cs ds) = v ∷ []
-nodeValues (loop b c vs) = c ∷ vs
+nodeValues (select k v cs ds u) = v ∷ []
+nodeValues (loop b c vs u) = c ∷ vs
 nodeValues (exit i vs) = vs
 
 abbrev pub ctrlValues : ℕ × ControlInst → List Value
@@ -83,8 +90,8 @@ selectionInsts (spvInst i) = i ∷ []
 
 abbrev pub nodeInsts : Node → List Inst
 nodeInsts (block is) = []
-nodeInsts (select k v cs ds) = selectionInsts k
-nodeInsts (loop b c vs) = []
+nodeInsts (select k v cs ds u) = selectionInsts k
+nodeInsts (loop b c vs u) = []
 nodeInsts (exit i vs) = i ∷ []
 
 abbrev pub opInsts : DataInstKind → List Inst
@@ -117,8 +124,8 @@ nodeList F = gather (λ r. r .nodes) (F .regions)
 
 abbrev pub blockOps : Node → List ℕ
 blockOps (block is) = is
-blockOps (select k v cs ds) = []
-blockOps (loop b c vs) = []
+blockOps (select k v cs ds u) = []
+blockOps (loop b c vs u) = []
 blockOps (exit i vs) = []
 
 unfoldable pub opList : Func → List ℕ

@@ -17,11 +17,18 @@ pub data CfgPoint : Type 0 where
 unfoldable pub eqPoint : (x y : CfgPoint) → Dec (x ≡ y)
 eqPoint = CfgPoint-discrete ℕ-discrete
 
--- the labels of a merge: where a selection's cases come together; where a loop is left, and where its way back begins
+-- the labels of a merge: where a selection's cases come together; where a loop is left, and where its way back begins; behind them its control
+-- number (document 02, W4)
 pub data Merge : Type 0 where
   noMerge : Merge
-  selectionMerge : CfgPoint → Merge
-  loopMerge : CfgPoint → CfgPoint → Merge
+  selectionMerge : CfgPoint → ℕ → Merge
+  loopMerge : CfgPoint → CfgPoint → ℕ → Merge
+
+-- that number, and 0 where there is no merge
+abbrev pub mergeNumber : Merge → ℕ
+mergeNumber noMerge = 0
+mergeNumber (selectionMerge a u) = u
+mergeNumber (loopMerge a b u) = u
 
 -- the way out of a block; `vals` are the values for targets' phis
 pub record Terminator : Type 0 where

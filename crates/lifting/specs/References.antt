@@ -1,6 +1,6 @@
 -- Document 01, refusal 4: a reference names nothing (a `(d I)` whose T is 0, an `(n N I)` that is no select's output); an id is 0 where 0 has
 -- no meaning; a const id repeats; an opcode or operand kind is over 65,535, an operand kind 0, or an immediate kind over 2; an INST's
--- opcode is one of the opcode table's. Assumes nothing.
+-- opcode is one of the opcode table's; and (document 02, W4) a merge's control number is over 2. Assumes nothing.
 use mathlib.Core.Bool.{Bool, not, _&&_}
 use mathlib.Core.List.{_++_, map}
 use native.Mathlib.Decide.{ℕ-discrete}
@@ -8,9 +8,9 @@ use lib.Dec.{leb, ltb}
 use lib.ListN.{length}
 use Rattle.opcodes.specs.Table.{table}
 use Rattle.lifting.specs.Lists.{every, within, distinct}
-use Rattle.lifting.specs.Ast.{Value, const, regionInput, nodeOutput, dataInstOutput, Imm, Inst, Func}
-use Rattle.lifting.specs.Parts.{regionOf, nodeOf, opOf, outsOf, values, insts, nodeList, opList, childList, ctrlRegions, requiredIds}
-use Rattle.lifting.specs.Limits.{maxOpcode, maxImmKind}
+use Rattle.lifting.specs.Ast.{Value, const, regionInput, nodeOutput, dataInstOutput, Imm, Inst, Node, Func}
+use Rattle.lifting.specs.Parts.{regionOf, nodeOf, opOf, outsOf, mergeControl, values, insts, nodeList, opList, childList, ctrlRegions, requiredIds}
+use Rattle.lifting.specs.Limits.{maxOpcode, maxImmKind, maxMergeControl}
 
 -- A value names something: a constant, an input, a select's output, the result of an op that has one. A line that is not there holds nothing
 -- (Parts), so asking for its input, output or result also asks that it be there.
@@ -26,6 +26,10 @@ immFits m = leb (m .kind) maxImmKind && ltb 0 (m .operand) && leb (m .operand) m
 abbrev pub instFits : Inst → Bool
 instFits i = leb (i .opcode) maxOpcode && not (within (i .opcode) table) && every immFits (i .imms)
 
+-- 0 none, 1 unroll or flatten, 2 don't; others are refused by 4 (document 02, W4)
+abbrev pub controlHolds : Node → Bool
+controlHolds n = leb (mergeControl n) maxMergeControl
+
 -- A text passes 4.
 unfoldable pub referencesHold : Func → Bool
 unfolding values insts nodeList opList childList ctrlRegions requiredIds ℕ-discrete
@@ -37,4 +41,5 @@ referencesHold F =
     && every (λ x. ltb 0 x) (requiredIds F)
     && distinct (map (λ c. c .id) (F .consts))
     && every (λ c. leb (c .opcode) maxOpcode) (F .consts)
+    && every controlHolds (F .nodes)
     && every instFits (insts F)

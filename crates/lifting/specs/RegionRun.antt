@@ -61,10 +61,10 @@ module _ (F : Func) {Val : Type 0} (W : World Val) where
   -- inits and runs the body; an exit reads its values and ends the run
   abbrev pub doNode : Node → ℕ → List Task → Mem Val Value → Out (RegionState Val) (End Val)
   doNode (block is) n k m = go (record { todo = map op is ++ k; mem = m })
-  doNode (select s v cs ds) n k m =
+  doNode (select s v cs ds u) n k m =
       reading (reads (m .env) (v ∷ []))
       (λ vs. go (record { todo = nodesThen (getD cs (pick W s vs (length cs)) 0) (close (outKeys n ds) (getD cs (pick W s vs (length cs)) 0) ∷ k); mem = m }))
-  doNode (loop b c is) n k m =
+  doNode (loop b c is u) n k m =
       reading (reads (m .env) is) (λ vs. go (record { todo = nodesThen b (again b c ∷ k); mem = sets (insKeys F b) vs m }))
   doNode (exit i vs) n k m = reading (reads (m .env) vs) (λ ws. halt (exited i ws))
 

@@ -77,8 +77,8 @@ module _ (F : Func) where
   -- the way out of a region of node n, which has the outputs vs
   abbrev pub childTerm : Node → ℕ → List Value → Terminator
   childTerm (block is) n vs = nothingHere
-  childTerm (select k v cs ds) n vs = record { attrs = 0; kind = branch; ins = []; targets = nodeExit n ∷ []; vals = someVals (nodeExit n) vs; merge = noMerge }
-  childTerm (loop b c is) n vs = loopTerm (always c) n c vs
+  childTerm (select k v cs ds u) n vs = record { attrs = 0; kind = branch; ins = []; targets = nodeExit n ∷ []; vals = someVals (nodeExit n) vs; merge = noMerge }
+  childTerm (loop b c is u) n vs = loopTerm (always c) n c vs
   childTerm (exit i ws) n vs = nothingHere
 
   abbrev pub exitTerm : ℕ → Place → Terminator
@@ -92,14 +92,14 @@ module _ (F : Func) where
   -- values of its own; an exit
   abbrev pub inBlock : Node → ℕ → BlockLifting
   inBlock (block is) n = record { keys = []; decls = []; defaults = []; ops = is; term = straight (nodeExit n) }
-  inBlock (select k v cs ds) n =
-      plain (record { attrs = 0; kind = selectBranch k; ins = v ∷ []; targets = map regionEntry cs; vals = []; merge = selectionMerge (nodeExit n) })
-  inBlock (loop b c is) n = record {
+  inBlock (select k v cs ds u) n =
+      plain (record { attrs = 0; kind = selectBranch k; ins = v ∷ []; targets = map regionEntry cs; vals = []; merge = selectionMerge (nodeExit n) u })
+  inBlock (loop b c is u) n = record {
     keys = insKeys F b;
     decls = regionOf F b .ins;
     defaults = is;
     ops = [];
-    term = record { attrs = 0; kind = branch; ins = []; targets = regionEntry b ∷ []; vals = []; merge = loopMerge (nodeExit n) (regionExit b) };
+    term = record { attrs = 0; kind = branch; ins = []; targets = regionEntry b ∷ []; vals = []; merge = loopMerge (nodeExit n) (regionExit b) u };
   }
   inBlock (exit i vs) n = plain (record { attrs = 0; kind = exitInvocation i; ins = vs; targets = []; vals = []; merge = noMerge })
 

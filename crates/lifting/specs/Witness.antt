@@ -25,16 +25,16 @@ use Rattle.lifting.specs.BlockRun.{parts, blockStep, blockLog, blockStar
 -- (region (in (0 4) (0 4)) (nodes 1) (out (r 1 1) (r 1 0)))
 -- (region (in) (nodes) (out (c 0)))
 -- (region (in) (nodes 2) (out (d 1)))
--- (loop 1 (d 0) (init (c 0) (c 1)))
+-- (loop 1 (d 0) (init (c 0) (c 1)) 0)
 -- (block 0)
 -- (block 1)
--- (select bool (c 1) (cases 2 3) (outs (0 4)))
+-- (select bool (c 1) (cases 2 3) (outs (0 4)) 0)
 -- (block 2)
 -- (op 0 4 (inst 128) (r 1 0) (r 1 1))
 -- (op 0 4 (inst 129) (r 1 0))
 -- (op 0 0 (call 7) (n 3 0))
 unfoldable pub text : List ℕ
-text = bytes "(func 0 2 3 0)\n(const 5 43)\n(const 6 43)\n(region (in) (nodes 0 3 4) (out (n 3 0)))\n(region (in (0 4) (0 4)) (nodes 1) (out (r 1 1) (r 1 0)))\n(region (in) (nodes) (out (c 0)))\n(region (in) (nodes 2) (out (d 1)))\n(loop 1 (d 0) (init (c 0) (c 1)))\n(block 0)\n(block 1)\n(select bool (c 1) (cases 2 3) (outs (0 4)))\n(block 2)\n(op 0 4 (inst 128) (r 1 0) (r 1 1))\n(op 0 4 (inst 129) (r 1 0))\n(op 0 0 (call 7) (n 3 0))\n"
+text = bytes "(func 0 2 3 0)\n(const 5 43)\n(const 6 43)\n(region (in) (nodes 0 3 4) (out (n 3 0)))\n(region (in (0 4) (0 4)) (nodes 1) (out (r 1 1) (r 1 0)))\n(region (in) (nodes) (out (c 0)))\n(region (in) (nodes 2) (out (d 1)))\n(loop 1 (d 0) (init (c 0) (c 1)) 0)\n(block 0)\n(block 1)\n(select bool (c 1) (cases 2 3) (outs (0 4)) 0)\n(block 2)\n(op 0 4 (inst 128) (r 1 0) (r 1 1))\n(op 0 4 (inst 129) (r 1 0))\n(op 0 0 (call 7) (n 3 0))\n"
 
 unfoldable pub writtenWords : List ℕ
 writtenWords = 54 ∷ 0 ∷ 2 ∷ 10 ∷ 1 ∷ 0 ∷ 1 ∷ 0 ∷ 1 ∷ 3 ∷ 248 ∷ 0 ∷ 0 ∷ 16 ∷ 0 ∷ 0 ∷ 249 ∷ 0 ∷ 0 ∷ 0 ∷ 0 ∷ 1 ∷ 17 ∷ 248 ∷ 0 ∷ 0 ∷ 17 ∷ 0 ∷ 0 ∷ 245 ∷ 0 ∷ 4 ∷ 11 ∷ 0 ∷ 4 ∷ 5 ∷ 16 ∷ 12 ∷ 19 ∷ 245 ∷ 0 ∷ 4 ∷ 12 ∷ 0 ∷ 4 ∷ 6 ∷ 16 ∷ 11 ∷ 19 ∷ 246 ∷ 0 ∷ 0 ∷ 0 ∷ 1 ∷ 0 ∷ 3 ∷ 0 ∷ 2 ∷ 20 ∷ 19 ∷ 249 ∷ 0 ∷ 0 ∷ 0 ∷ 0 ∷ 1 ∷ 18 ∷ 248 ∷ 0 ∷ 0 ∷ 18 ∷ 0 ∷ 0 ∷ 128 ∷ 0 ∷ 4 ∷ 14 ∷ 0 ∷ 2 ∷ 11 ∷ 12 ∷ 249 ∷ 0 ∷ 0 ∷ 0 ∷ 0 ∷ 1 ∷ 19 ∷ 248 ∷ 0 ∷ 0 ∷ 19 ∷ 0 ∷ 0 ∷ 250 ∷ 0 ∷ 0 ∷ 0 ∷ 0 ∷ 3 ∷ 14 ∷ 17 ∷ 20 ∷ 248 ∷ 0 ∷ 0 ∷ 20 ∷ 0 ∷ 0 ∷ 247 ∷ 0 ∷ 0 ∷ 0 ∷ 1 ∷ 0 ∷ 2 ∷ 0 ∷ 1 ∷ 23 ∷ 250 ∷ 0 ∷ 0 ∷ 0 ∷ 0 ∷ 3 ∷ 6 ∷ 21 ∷ 22 ∷ 248 ∷ 0 ∷ 0 ∷ 21 ∷ 0 ∷ 0 ∷ 249 ∷ 0 ∷ 0 ∷ 0 ∷ 0 ∷ 1 ∷ 23 ∷ 248 ∷ 0 ∷ 0 ∷ 22 ∷ 0 ∷ 0 ∷ 129 ∷ 0 ∷ 4 ∷ 15 ∷ 0 ∷ 1 ∷ 11 ∷ 249 ∷ 0 ∷ 0 ∷ 0 ∷ 0 ∷ 1 ∷ 23 ∷ 248 ∷ 0 ∷ 0 ∷ 23 ∷ 0 ∷ 0 ∷ 245 ∷ 0 ∷ 4 ∷ 13 ∷ 0 ∷ 4 ∷ 5 ∷ 21 ∷ 15 ∷ 22 ∷ 57 ∷ 0 ∷ 0 ∷ 0 ∷ 0 ∷ 2 ∷ 7 ∷ 13 ∷ 254 ∷ 0 ∷ 0 ∷ 0 ∷ 0 ∷ 1 ∷ 13 ∷ 56 ∷ 0 ∷ 0 ∷ 0 ∷ 0 ∷ 0 ∷ []

@@ -10,9 +10,10 @@ use native.Mathlib.Omega.{arith}
 use lib.ListN.{length}
 use Rattle.lifting.specs.Bytes.{bytes}
 use Rattle.lifting.specs.Digits.{Reading}
-use Rattle.lifting.specs.Codec.{Codec}
-use Rattle.lifting.specs.Grammar.{sub}
+use Rattle.lifting.specs.Codec.{Codec, lit, seq, view, same}
+use Rattle.lifting.specs.Grammar.{after, sub}
 use Rattle.cursor.specs.Read.{Reads, Took, Denied, literal}
+use Rattle.cursor.proofs.Laws.{onward}
 use Rattle.lines.specs.Stores.{Stores, refused, stores-one, stores-none, before-took, before-denied, after-stored, after-refused}
 use Rattle.lines.specs.Tails.{lastForm, ended}
 
@@ -34,6 +35,20 @@ module _ {A S : Type 0} (s : String) (C : Codec A) {f : A → S → S} {text : L
   pub sub-denied : Denied (literal (bytes " (" ++ bytes s)) text at → Stores (sub s C .read) f text at none w v
   unfolding sub
   sub-denied p = before-denied (bytes " (" ++ bytes s) refl C p
+
+-- what ends a line is only read
+module _ {A : Type 0} (C : Codec A) {text : List ℕ} {at : ℕ} where
+  pub last-misses : Denied (C .read) text at → Denied (lastForm C .read) text at
+  unfolding lastForm after lit seq same view
+  last-misses p = record { is = rw (p .is); moves = tt }
+
+  pub last-open : {a : A} {mid : ℕ} → Took (C .read) text at a mid → Denied (literal (bytes ")\n")) text mid → Denied (lastForm C .read) text at
+  unfolding lastForm after lit seq same view
+  last-open p q = record { is = rw (p .is, q .is); moves = tt }
+
+  pub last-reads : {a : A} {mid next : ℕ} → Took (C .read) text at a mid → Took (literal (bytes ")\n")) text mid tt next → Took (lastForm C .read) text at a next
+  unfolding lastForm after lit seq same view
+  last-reads p q = record { is = rw (p .is, q .is); moves = onward (p .moves) (q .moves) }
 
 -- what ends a line
 module _ {A S : Type 0} (C : Codec A) {f : A → S → S} {text : List ℕ} {at : ℕ} {w v : S} where

@@ -5,9 +5,10 @@ use mathlib.Core.List.{List}
 use mathlib.Core.Option.{Option, none, some}
 use Prim.Native.Nat.{ℕ}
 use Rattle.lifting.specs.Codec.{seq}
-use Rattle.lifting.specs.Ast.{block, call, ext, boolCond}
+use Rattle.lifting.specs.Ast.{Node, block, call, ext, boolCond}
 use Rattle.lifting.specs.Grammar.{field, numbers, imms, values}
-use Rattle.cursor.specs.Read.{Took}
+use Rattle.lifting.specs.Parts.{nodeValues}
+use Rattle.cursor.specs.Read.{Took, Denied}
 use Rattle.cursor.specs.Heads.{instHead, selectionHead}
 use Rattle.cursor.specs.declared.OpKind.{OpKind}
 use Rattle.cursor.specs.declared.OpKind.the-variants as op
@@ -18,36 +19,61 @@ use Rattle.func.specs.declared.Marks.{Marks}
 use Rattle.func.specs.Store.{folds}
 use Rattle.func.specs.Keep.{keepOpRef, keepImm, keepValue, keepChild, keepRegion, keepNode, keepOp}
 use Rattle.func.specs.Rows.{marksOf, regionRow, nodeRow, opRow}
-use Rattle.lines.specs.Stores.{Stores, stores-row, as-up, as-told, as-kept, head-took, first-took, first-stored, first-refused}
-use Rattle.lines.specs.Tails.{ended, regionLists, regionTail, toRegion, blockTail, loopLists, loopTail, toLoop, instValues, exitTail, toExit, selectLists, selectRest, selectTail, toSelect, toSelectInst, opRest, toOp, toOpInst}
-use Rattle.lines.specs.Keepers.{keepRegionLists, keepLoopLists, keepInstValues, keepSelectLists, keepNodeLists, keepOpLists, region-row, block-row, loop-row, exit-row, selectNumber, selectOpcode, select-bool, select-inst, select-row, kindOf, op-inst, op-row}
+use Rattle.lines.specs.Stores.{Stores, stores-row, waits-row, waits-denied, waits-refused, as-up, as-told, as-kept, head-took, first-took, first-stored, first-refused}
+use Rattle.lines.specs.Tails.{ended, regionLists, regionTail, toRegion, blockTail, control, controlled, loopLists, loopRest, loopTail, toLoop, instValues, exitTail, toExit, selectLists, selectRest, selectTail, toSelect, toSelectInst, opRest, toOp, toOpInst}
+use Rattle.lines.specs.Keepers.{keepRegionLists, keepLoopLists, keepInstValues, keepSelectLists, keepNodeLists, keepOpLists, region-row, block-row, loop-row, exit-row, selectNumber, selectOpcode, select-bool, select-inst, rest-refused, rest-denied, rest-row, kindOf, op-inst, op-row}
+
+-- a loop's lists, as those of a loop that waits for its control number
+abbrev pub keepLoop : (ℕ → Node) → List ℕ → List ℕ
+keepLoop g w = folds keepValue (nodeValues (g 0)) w
+
+pub loop-lists : (r : ℕ) {text : List ℕ} {at : ℕ} {found : Option (Unit {0} × ℕ)} {w u : List ℕ} → Stores (loopLists .read) keepLoopLists text at found w u
+    → Stores (loopRest r) keepLoop text at found w u
+unfolding folds
+loop-lists r s = as-up (loopLists .read) (toLoop r) s
+
+module _ {text : List ℕ} {at mid r : ℕ} {w u v : List ℕ} (t : Took (field .read) text at r mid) where
+  pub loop-refused : Stores (loopLists .read) keepLoopLists text mid none w u → Stores loopTail keepNode text at none w v
+  loop-refused s = head-took (field .read) (λ r t. controlled (loopRest r t)) t (waits-refused (loopLists .read) (toLoop r) control (loop-lists r s))
+
+  pub loop-denied : {far : ℕ} → Stores (loopLists .read) keepLoopLists text mid (some (tt, far)) w u → Denied (control .read) text far → Stores loopTail keepNode text at none w v
+  loop-denied s d = head-took (field .read) (λ r t. controlled (loopRest r t)) t (waits-denied (loopLists .read) (toLoop r) control (loop-lists r s) d)
+
+module _ {text : List ℕ} {at mid : ℕ} {k : Selection} {w u v : List ℕ} (t : Took (selectionHead .read) text at k mid) where
+  pub select-refused : Stores (selectRest k) keepNodeLists text mid none w u → Stores selectTail keepNode text at none w v
+  select-refused s = head-took (selectionHead .read) (λ k t. controlled (selectRest k t)) t (rest-refused k s)
+
+  pub select-denied : {far : ℕ} → Stores (selectRest k) keepNodeLists text mid (some (tt, far)) w u → Denied (control .read) text far → Stores selectTail keepNode text at none w v
+  select-denied s d = head-took (selectionHead .read) (λ k t. controlled (selectRest k t)) t (rest-denied k s d)
 
 module _ {text : List ℕ} {at next : ℕ} {w u v : List ℕ} {m : Marks} (e : m ≡ marksOf w) where
   pub region-stored : Stores (regionLists .read) keepRegionLists text at (some (tt, next)) w u → v ≡ regionRow m u → Stores regionTail keepRegion text at (some (tt, next)) w v
   region-stored s q = as-up (regionLists .read) toRegion (stores-row (regionRow (marksOf w)) (region-row w) s (q ∙ ap (λ (m : Marks). regionRow m u) e))
 
-  pub block-stored : Stores (ended numbers .read) (folds keepOpRef) text at (some (tt, next)) w u → v ≡ nodeRow m 0 0 u → Stores blockTail keepNode text at (some (tt, next)) w v
-  block-stored s q = as-up (ended numbers .read) block (stores-row (nodeRow (marksOf w) 0 0) (block-row w) s (q ∙ ap (λ (m : Marks). nodeRow m 0 0 u) e))
+  pub block-stored : Stores (ended numbers .read) (folds keepOpRef) text at (some (tt, next)) w u → v ≡ nodeRow m 0 0 0 u → Stores blockTail keepNode text at (some (tt, next)) w v
+  block-stored s q = as-up (ended numbers .read) block (stores-row (nodeRow (marksOf w) 0 0 0) (block-row w) s (q ∙ ap (λ (m : Marks). nodeRow m 0 0 0 u) e))
 
   module _ {mid : ℕ} where
     -- the body is kept behind the values
-    pub loop-stored : {r : ℕ} {z : List ℕ} → Took (field .read) text at r mid → Stores (loopLists .read) keepLoopLists text mid (some (tt, next)) w u → z ≡ keepChild r u
-        → v ≡ nodeRow m 3 0 z → Stores loopTail keepNode text at (some (tt, next)) w v
-    loop-stored {r} {z} t s k q =
-        as-up (seq field loopLists .read) toLoop
-        (first-took field loopLists (λ r x. keepNode (toLoop (r, x))) t
-        (stores-row (λ u. nodeRow (marksOf w) 3 0 (keepChild r u)) (loop-row w r) s (q ∙ ap (λ (m : Marks). nodeRow m 3 0 z) e ∙ ap (nodeRow (marksOf w) 3 0) k)))
+    pub loop-stored : {r c far : ℕ} {z : List ℕ} → Took (field .read) text at r mid → Stores (loopLists .read) keepLoopLists text mid (some (tt, far)) w u
+        → Took (control .read) text far c next → z ≡ keepChild r u → v ≡ nodeRow m 3 0 c z → Stores loopTail keepNode text at (some (tt, next)) w v
+    unfolding folds
+    loop-stored {r} {c} {z = z} t s d k q =
+        head-took (field .read) (λ r t. controlled (loopRest r t)) t
+        (waits-row (loopLists .read) (toLoop r) control (λ c u. nodeRow (marksOf w) 3 0 c (keepChild r u)) (λ x. loop-row w r x c) (loop-lists r s) d
+        (q ∙ ap (λ (m : Marks). nodeRow m 3 0 c z) e ∙ ap (nodeRow (marksOf w) 3 0 c) k))
 
-    pub exit-stored : {n : ℕ} → Took (instHead .read) text at n mid → Stores (instValues .read) keepInstValues text mid (some (tt, next)) w u → v ≡ nodeRow m 4 n u
+    pub exit-stored : {n : ℕ} → Took (instHead .read) text at n mid → Stores (instValues .read) keepInstValues text mid (some (tt, next)) w u → v ≡ nodeRow m 4 n 0 u
         → Stores exitTail keepNode text at (some (tt, next)) w v
     exit-stored {n} t s q =
         as-up (seq instHead instValues .read) toExit
-        (first-took instHead instValues (λ n x. keepNode (toExit (n, x))) t (stores-row (nodeRow (marksOf w) 4 n) (exit-row w n) s (q ∙ ap (λ (m : Marks). nodeRow m 4 n u) e)))
+        (first-took instHead instValues (λ n x. keepNode (toExit (n, x))) t (stores-row (nodeRow (marksOf w) 4 n 0) (exit-row w n) s (q ∙ ap (λ (m : Marks). nodeRow m 4 n 0 u) e)))
 
-    pub select-stored : {k : Selection} → Took (selectionHead .read) text at k mid → Stores (selectRest k) keepNodeLists text mid (some (tt, next)) w u
-        → v ≡ nodeRow m (selectNumber k) (selectOpcode k) u → Stores selectTail keepNode text at (some (tt, next)) w v
-    select-stored {k} t s q =
-        head-took (selectionHead .read) selectRest t (select-row k s (q ∙ ap (λ (m : Marks). nodeRow m (selectNumber k) (selectOpcode k) u) e))
+    pub select-stored : {k : Selection} {c far : ℕ} → Took (selectionHead .read) text at k mid → Stores (selectRest k) keepNodeLists text mid (some (tt, far)) w u
+        → Took (control .read) text far c next → v ≡ nodeRow m (selectNumber k) (selectOpcode k) c u → Stores selectTail keepNode text at (some (tt, next)) w v
+    select-stored {k} {c} t s d q =
+        head-took (selectionHead .read) (λ k t. controlled (selectRest k t)) t
+        (rest-row k s d (q ∙ ap (λ (m : Marks). nodeRow m (selectNumber k) (selectOpcode k) c u) e))
 
   pub op-stored : (a t : ℕ) (k : OpKind) {j : KeptKind} → Stores (opRest a t k) keepOpLists text at (some (tt, next)) w u → j ≡ kindOf k → v ≡ opRow m a t j u
       → Stores (opRest a t k) keepOp text at (some (tt, next)) w v
@@ -68,8 +94,8 @@ module _ {k : Selection} {text : List ℕ} {at : ℕ} {w v : List ℕ} where
         as-told selectRest e
         (as-up (seq imms selectLists .read) (toSelectInst n) (as-kept (λ x. select-inst w n (x .0) (x .1)) (first-stored imms selectLists keepSelectLists s r)))
 
-pub row-by-kind : (m : Marks) (u : List ℕ) {k j : Selection} {v : List ℕ} → k ≡ j → v ≡ nodeRow m (selectNumber j) (selectOpcode j) u → v ≡ nodeRow m (selectNumber k) (selectOpcode k) u
-row-by-kind m u {v = v} e q = subst⁻¹ (λ (j : Selection). v ≡ nodeRow m (selectNumber j) (selectOpcode j) u) e q
+pub row-by-kind : (m : Marks) (c : ℕ) (u : List ℕ) {k j : Selection} {v : List ℕ} → k ≡ j → v ≡ nodeRow m (selectNumber j) (selectOpcode j) c u → v ≡ nodeRow m (selectNumber k) (selectOpcode k) c u
+row-by-kind m c u {v = v} e q = subst⁻¹ (λ (j : Selection). v ≡ nodeRow m (selectNumber j) (selectOpcode j) c u) e q
 
 -- what follows the kind of an op
 module _ (a t : ℕ) {k : OpKind} {text : List ℕ} {at : ℕ} {found : Option (Unit {0} × ℕ)} {w v : List ℕ} where

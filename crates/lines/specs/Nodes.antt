@@ -9,8 +9,8 @@ use Prim.Native.Nat.{ℕ}
 use Rattle.lifting.specs.Bytes.{bytes}
 use Rattle.lifting.specs.Digits.{Reading}
 use Rattle.lifting.specs.Codec.{Codec, then, then-then, both, second, up, strip, lit, seq, view, same, alt}
-use Rattle.lifting.specs.Ast.{Value, Imm, Inst, SelectionKind, boolCond, spvInst, Decl, Node, exit}
-use Rattle.lifting.specs.Grammar.{before, sub, closed, line, field, numbers, decls, value, values, imms, instForm, selKind, blockLine, selectLine, loopLine, exitLine, nodeForm, nodeLine}
+use Rattle.lifting.specs.Ast.{Value, Imm, Inst, SelectionKind, Decl, Node, exit}
+use Rattle.lifting.specs.Grammar.{before, closed, line, field, numbers, values, imms, instForm, selKind, blockLine, selectLine, loopLine, exitLine, nodeForm, nodeLine}
 use Rattle.cursor.specs.Begins.{goOn, Begins, oneRest, begins-alt}
 use Rattle.cursor.specs.Heads.{instHead, instRest, inst-begins, selectionHead, selectionRest, selection-begins}
 use Rattle.cursor.specs.declared.Selection.{Selection}
@@ -19,7 +19,7 @@ use Rattle.lines.specs.declared.NodeWord.{NodeWord}
 use Rattle.lines.specs.declared.NodeWord.the-variants.{Block, Select, Loop, Exit}
 use Rattle.lines.specs.declared.NodeWordRead.{NodeWordRead}
 use Rattle.lines.specs.declared.NodeWordRead.the-variants.{Word, Other}
-use Rattle.lines.specs.Tails.{ended, begins-line, begins-alike, last-alike, last-seq, ended-seq, second-alike, blockTail, loopLists, loopTail, instValues, exitTail, toExit, selectForms, selectLists, toSelect, toSelectInst, selectRest, selectTail}
+use Rattle.lines.specs.Tails.{ended, begins-line, begins-alike, last-alike, last-seq, ended-seq, second-alike, blockTail, control, controlled, loopLists, toLoop, loopTail, instValues, exitTail, toExit, selectForms, selectLists, toSelect, selectRest, selectTail}
 
 abbrev pub nodeWordOf : NodeWordRead → Option (NodeWord × ℕ)
 nodeWordOf (Word w c) = some (w, c .at)
@@ -71,28 +71,25 @@ abbrev instOf : ℕ → List Imm → Inst
 instOf n is = record { opcode = n; imms = is }
 
 -- each line behind its word, as the fields alone
-select-begins : Begins selectLine (lit (bytes "(select") refl) (λ u. seq selKind selectLists .read)
-unfolding selectLine selectLists selectForms
-select-begins =
-    begins-alike (begins-line "select" (closed (seq selKind (seq value (seq (sub "cases" numbers) (sub "outs" decls))))))
-    (λ u t. last-alike (seq selKind (seq value (seq (sub "cases" numbers) (sub "outs" decls)))) t
-    ∙ last-seq selKind (seq value (seq (sub "cases" numbers) (sub "outs" decls))) t
-    ∙ second-alike selKind _ _ (λ t. last-seq value (seq (sub "cases" numbers) (sub "outs" decls)) t ∙ second-alike value _ _ (last-seq (sub "cases" numbers) (sub "outs" decls)) t) t)
+-- lists behind a head, and the control number last
+lists-alike : {A B : Type 0} (C : Codec A) (L : Codec B) (t : List ℕ) → ended (closed (seq C (seq L field))) .read t ≡ seq C (seq L control) .read t
+unfolding control
+lists-alike C L t = last-alike (seq C (seq L field)) t ∙ last-seq C (seq L field) t ∙ second-alike C _ _ (last-seq L field) t
 
-loop-begins : Begins loopLine (lit (bytes "(loop") refl) (λ u. seq field loopLists .read)
+select-begins : Begins selectLine (lit (bytes "(select") refl) (λ u. seq selKind (seq selectLists control) .read)
+unfolding selectLine selectLists selectForms
+select-begins = begins-alike (begins-line "select" (closed (seq selKind (seq selectLists field)))) (λ u. lists-alike selKind selectLists)
+
+loop-begins : Begins loopLine (lit (bytes "(loop") refl) (λ u. seq field (seq loopLists control) .read)
 unfolding loopLine loopLists
-loop-begins =
-    begins-alike (begins-line "loop" (closed (seq field (seq value (sub "init" values)))))
-    (λ u t. last-alike (seq field (seq value (sub "init" values))) t
-    ∙ last-seq field (seq value (sub "init" values)) t
-    ∙ second-alike field _ _ (last-seq value (sub "init" values)) t)
+loop-begins = begins-alike (begins-line "loop" (closed (seq field (seq loopLists field)))) (λ u. lists-alike field loopLists)
 
 exit-begins : Begins exitLine (lit (bytes "(exit") refl) (λ u. seq instForm (ended values) .read)
 unfolding exitLine
 exit-begins = begins-alike (begins-line "exit" (seq instForm values)) (λ u. ended-seq instForm values)
 
 form-begins : Begins nodeForm wordForm
-    (oneRest (oneRest (oneRest (λ u. ended numbers .read) (λ u. seq selKind selectLists .read)) (λ u. seq field loopLists .read)) (λ u. seq instForm (ended values) .read))
+    (oneRest (oneRest (oneRest (λ u. ended numbers .read) (λ u. seq selKind (seq selectLists control) .read)) (λ u. seq field (seq loopLists control) .read)) (λ u. seq instForm (ended values) .read))
 unfolding nodeForm wordForm blockLine selectLine loopLine exitLine line before lit seq same view alt strip
 form-begins =
     begins-alt (λ b r. refl) (λ b r. refl)
@@ -112,29 +109,22 @@ form-begins =
     second (inr _) r = refl
 
 -- the fields as a node: what follows the word
-select-as : (t : List ℕ) → then (seq selKind selectLists .read t) (up (λ x. toSelect (x .0) (x .1))) ≡ selectTail t
+abbrev asSelect : SelectionKind × ((Value × (List ℕ × List Decl)) × ℕ) → Node
+asSelect x = toSelect (x .0) (x .1 .0) (x .1 .1)
+
+select-as : (t : List ℕ) → then (seq selKind (seq selectLists control) .read t) (up asSelect) ≡ selectTail t
 unfolding seq
-select-as t = ap (λ (o : Reading SelectionKind). then (then o (second selKind selectLists)) (up (λ x. toSelect (x .0) (x .1)))) (selection-begins .is t) ∙ go (selectionHead .read t)
+select-as t = ap (λ (o : Reading SelectionKind). then (then o (second selKind (seq selectLists control))) (up asSelect)) (selection-begins .is t) ∙ go (selectionHead .read t)
   where
-    by-lists : (k : SelectionKind) (o : Reading (Value × (List ℕ × List Decl))) → then (then o (both k)) (up (λ x. toSelect (x .0) (x .1))) ≡ then o (up (toSelect k))
-    by-lists k none = refl
-    by-lists k (some y) = refl
-
-    by-imms : (n : ℕ) (o : Reading (List Imm))
-        → then (then (then {B = SelectionKind × List ℕ} (then {B = Inst × List ℕ} o (λ x. some (instOf n (x .0), x .1))) (λ x. some (spvInst (x .0), x .1))) (second selKind selectLists)) (up (λ x. toSelect (x .0) (x .1)))
-        ≡ then (then o (second imms selectLists)) (up (toSelectInst n))
-    by-imms n none = refl
-    by-imms n (some y) = by-both (selectLists .read (y .1))
-      where
-        by-both : (o : Reading (Value × (List ℕ × List Decl))) → then (then o (both (spvInst (instOf n (y .0))))) (up (λ x. toSelect (x .0) (x .1)))
-            ≡ then (then o (both (y .0))) (up (toSelectInst n))
-        by-both none = refl
-        by-both (some z) = refl
-
-    go : (o : Reading Selection) → then (then (goOn o selectionRest) (second selKind selectLists)) (up (λ x. toSelect (x .0) (x .1))) ≡ goOn o selectRest
+    go : (o : Reading Selection) → then (then (goOn o selectionRest) (second selKind (seq selectLists control))) (up asSelect) ≡ goOn o (λ k t. controlled (selectRest k t))
     go none = refl
-    go (some (sel.Bool, u)) = by-lists boolCond (selectLists .read u)
-    go (some (sel.Inst n, u)) = by-imms n (imms .read u)
+    go (some (sel.Bool, u)) = simp then-then
+    go (some (sel.Inst n, u)) = simp then-then
+
+loop-as : (t : List ℕ) → then (seq field (seq loopLists control) .read t) (up (λ x. toLoop (x .0) (x .1 .0) (x .1 .1)))
+    ≡ then (field .read t) (λ r. then (loopLists .read (r .1)) (λ x. then (control .read (x .1)) (up (toLoop (r .0) (x .0)))))
+unfolding seq
+loop-as t = simp then-then
 
 exit-as : (t : List ℕ) → then (seq instForm (ended values) .read t) (up (λ x. exit (x .0) (x .1))) ≡ exitTail t
 unfolding seq instValues
@@ -162,5 +152,5 @@ node-begins = record { is = λ t. go t (wordForm .read t) refl }
     go t none e = rw (form-begins .is t, e)
     go t (some (inl (inl (inl _)), u)) e = rw (form-begins .is t, e) (simp then-then)
     go t (some (inl (inl (inr _)), u)) e = rw (form-begins .is t, e) (simp then-then (select-as u))
-    go t (some (inl (inr _), u)) e = rw (form-begins .is t, e) (simp then-then)
+    go t (some (inl (inr _), u)) e = rw (form-begins .is t, e) (simp then-then (loop-as u))
     go t (some (inr _, u)) e = rw (form-begins .is t, e) (simp then-then (exit-as u))

@@ -156,15 +156,25 @@ func-begins = begins-alike (begins-line "func" (closed (seq field (seq field (se
 abbrev pub blockTail : List ℕ → Reading Node
 blockTail t = then (ended numbers .read t) (up block)
 
--- `(loop R V (init V..))`
-unfoldable pub loopLists : Codec (Value × List Value)
-loopLists = seq value (lastForm (sub "init" values))
+-- ` U)`, which ends the line of a select and of a loop; a node that waits for it, and then the node
+unfoldable pub control : Codec ℕ
+control = lastForm field
 
-abbrev pub toLoop : ℕ × (Value × List Value) → Node
-toLoop x = loop (x .0) (x .1 .0) (x .1 .1)
+abbrev pub controlled : Reading (ℕ → Node) → Reading Node
+controlled o = goOn o (λ n t. then (control .read t) (up n))
+
+-- `(loop R V (init V..) U)`
+unfoldable pub loopLists : Codec (Value × List Value)
+loopLists = seq value (sub "init" values)
+
+abbrev pub toLoop : ℕ → Value × List Value → ℕ → Node
+toLoop r x = loop r (x .0) (x .1)
+
+abbrev pub loopRest : ℕ → List ℕ → Reading (ℕ → Node)
+loopRest r t = then (loopLists .read t) (up (toLoop r))
 
 abbrev pub loopTail : List ℕ → Reading Node
-loopTail t = then (seq field loopLists .read t) (up toLoop)
+loopTail t = goOn (field .read t) (λ r t. controlled (loopRest r t))
 
 -- `(exit INST V..)`: the opcode, the immediates, the values
 unfoldable pub instValues : Codec (List Imm × List Value)
@@ -176,25 +186,25 @@ toExit x = exit (record { opcode = x .0; imms = x .1 .0 }) (x .1 .1)
 abbrev pub exitTail : List ℕ → Reading Node
 exitTail t = then (seq instHead instValues .read t) (up toExit)
 
--- `(select K V (cases R..) (outs (A T)..))`: the immediates, if K has any, then the rest
+-- `(select K V (cases R..) (outs (A T)..) U)`: the immediates, if K has any, then the rest
 unfoldable pub selectForms : Codec (List ℕ × List Decl)
-selectForms = seq (sub "cases" numbers) (lastForm (sub "outs" decls))
+selectForms = seq (sub "cases" numbers) (sub "outs" decls)
 
 unfoldable pub selectLists : Codec (Value × (List ℕ × List Decl))
 selectLists = seq value selectForms
 
-abbrev pub toSelect : SelectionKind → Value × (List ℕ × List Decl) → Node
+abbrev pub toSelect : SelectionKind → Value × (List ℕ × List Decl) → ℕ → Node
 toSelect k x = select k (x .0) (x .1 .0) (x .1 .1)
 
-abbrev pub toSelectInst : ℕ → List Imm × (Value × (List ℕ × List Decl)) → Node
+abbrev pub toSelectInst : ℕ → List Imm × (Value × (List ℕ × List Decl)) → ℕ → Node
 toSelectInst n x = toSelect (spvInst (record { opcode = n; imms = x .0 })) (x .1)
 
-abbrev pub selectRest : Selection → List ℕ → Reading Node
+abbrev pub selectRest : Selection → List ℕ → Reading (ℕ → Node)
 selectRest sel.Bool t = then (selectLists .read t) (up (toSelect boolCond))
 selectRest (sel.Inst n) t = then (seq imms selectLists .read t) (up (toSelectInst n))
 
 abbrev pub selectTail : List ℕ → Reading Node
-selectTail t = goOn (selectionHead .read t) selectRest
+selectTail t = goOn (selectionHead .read t) (λ k t. controlled (selectRest k t))
 
 -- `(op A T X V..)`: the immediates, if X has any, then the operands
 abbrev pub toOp : ℕ → ℕ → DataInstKind → List Value → Ast.Op

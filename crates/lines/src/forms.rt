@@ -4,6 +4,7 @@ use crate::elements::imm_list;
 use crate::elements::number_list;
 use crate::elements::value_list;
 use cursor::Cursor;
+use cursor::NumberRead;
 use cursor::Step;
 use func::CHILD_REFS;
 use func::NODE_REFS;
@@ -13,11 +14,12 @@ ghost use Prim.Native.Nat.{_≤_};
 ghost use lib.ListN.{length};
 ghost use Rattle.lifting.specs.Limits.{scratchWords};
 ghost use Rattle.lifting.specs.Grammar.{numbers, decls, values, sub};
-ghost use Rattle.cursor.specs.Answers.{stepOf};
+ghost use Rattle.cursor.specs.Read.{Reads};
+ghost use Rattle.cursor.specs.Answers.{stepOf, numberOf};
 ghost use Rattle.func.specs.Store.{folds};
 ghost use Rattle.func.specs.Keep.{keepDecl, keepValue, keepTarget, keepNodeRef, keepChild};
 ghost use Rattle.lines.specs.Stores.{Stores};
-ghost use Rattle.lines.specs.Tails.{lastForm, ended, instValues};
+ghost use Rattle.lines.specs.Tails.{lastForm, ended, control, instValues};
 ghost use Rattle.lines.specs.Keepers.{keepInstValues};
 
 // ` (nodes N..)`.
@@ -83,34 +85,41 @@ pub fn out_form(func: &mut [u32], text: &[u8], from: Cursor) -> Step
     d.word(text, b")\n")
 }
 
-// ` (init V..))`, which ends its line.
+// ` (init V..)`.
 pub fn init_form(func: &mut [u32], text: &[u8], from: Cursor) -> Step
     requires { ⌜ scratchWords ≤ length (now func) ⌝ }
-    ensures { λ r. ⌜ Stores (lastForm (sub "init" values) .read) (folds keepValue) (now (text .entry)) (from .at) (stepOf r) (now (func .entry)) (now (func .exit)) ⌝ }
+    ensures { λ r. ⌜ Stores (sub "init" values .read) (folds keepValue) (now (text .entry)) (from .at) (stepOf r) (now (func .entry)) (now (func .exit)) ⌝ }
     ensures { λ _. ⌜ length (now (func .exit)) ≡ length (now (func .entry)) ⌝ }
 {
     let Step::On(c) = from.word(text, b" (init") else {
         return Step::Refused;
     };
-    let Step::On(d) = value_list(func, text, c) else {
-        return Step::Refused;
-    };
-    d.word(text, b")\n")
+    value_list(func, text, c)
 }
 
-// ` (outs (A T)..))`, which ends its line.
+// ` (outs (A T)..)`.
 pub fn outs_form(func: &mut [u32], text: &[u8], from: Cursor) -> Step
     requires { ⌜ scratchWords ≤ length (now func) ⌝ }
-    ensures { λ r. ⌜ Stores (lastForm (sub "outs" decls) .read) (folds keepDecl) (now (text .entry)) (from .at) (stepOf r) (now (func .entry)) (now (func .exit)) ⌝ }
+    ensures { λ r. ⌜ Stores (sub "outs" decls .read) (folds keepDecl) (now (text .entry)) (from .at) (stepOf r) (now (func .entry)) (now (func .exit)) ⌝ }
     ensures { λ _. ⌜ length (now (func .exit)) ≡ length (now (func .entry)) ⌝ }
 {
     let Step::On(c) = from.word(text, b" (outs") else {
         return Step::Refused;
     };
-    let Step::On(d) = decl_list(func, text, c) else {
-        return Step::Refused;
+    decl_list(func, text, c)
+}
+
+// ` U)`, the control number of a merge, which ends its line.
+pub fn control_end(text: &[u8], from: Cursor) -> NumberRead
+    ensures { λ r. ⌜ Reads (control .read) (now (text .entry)) (from .at) (numberOf r) ⌝ }
+{
+    let NumberRead::Number(u, c) = from.field(text) else {
+        return NumberRead::Refused;
     };
-    d.word(text, b")\n")
+    let Step::On(d) = c.word(text, b")\n") else {
+        return NumberRead::Refused;
+    };
+    NumberRead::Number(u, d)
 }
 
 // `V..)`, which ends its line.

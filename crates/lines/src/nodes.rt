@@ -5,6 +5,7 @@ use crate::elements::imm_list;
 use crate::elements::keep_value;
 use crate::elements::number_list;
 use crate::forms::cases_form;
+use crate::forms::control_end;
 use crate::forms::init_form;
 use crate::forms::inst_values;
 use crate::forms::outs_form;
@@ -47,7 +48,7 @@ pub fn block_line(func: &mut [u32], text: &[u8], from: Cursor) -> Step
     let Step::On(d) = c.word(text, b"\n") else {
         return Step::Refused;
     };
-    keep::node_row(func, marks, NodeKind::Block, 0);
+    keep::node_row(func, marks, NodeKind::Block, 0, 0);
     Step::On(d)
 }
 
@@ -64,7 +65,7 @@ fn loop_lists(func: &mut [u32], text: &[u8], from: Cursor) -> Step
     init_form(func, text, c)
 }
 
-// `(loop R V (init V..))`, behind `(loop`.
+// `(loop R V (init V..) U)`, behind `(loop`.
 pub fn loop_line(func: &mut [u32], text: &[u8], from: Cursor) -> Step
     requires { ⌜ scratchWords ≤ length (now func) ⌝ }
     ensures { λ r. ⌜ Stores loopTail keepNode (now (text .entry)) (from .at) (stepOf r) (now (func .entry)) (now (func .exit)) ⌝ }
@@ -77,9 +78,12 @@ pub fn loop_line(func: &mut [u32], text: &[u8], from: Cursor) -> Step
     let Step::On(d) = loop_lists(func, text, c) else {
         return Step::Refused;
     };
+    let NumberRead::Number(u, e) = control_end(text, d) else {
+        return Step::Refused;
+    };
     keep::keep_number(func, CHILD_REFS, r);
-    keep::node_row(func, marks, NodeKind::Loop, 0);
-    Step::On(d)
+    keep::node_row(func, marks, NodeKind::Loop, 0, u);
+    Step::On(e)
 }
 
 // `(exit INST V..)`, behind `(exit`.
@@ -95,7 +99,7 @@ pub fn exit_line(func: &mut [u32], text: &[u8], from: Cursor) -> Step
     let Step::On(d) = inst_values(func, text, c) else {
         return Step::Refused;
     };
-    keep::node_row(func, marks, NodeKind::Exit, n);
+    keep::node_row(func, marks, NodeKind::Exit, n, 0);
     Step::On(d)
 }
 
@@ -133,18 +137,18 @@ fn select_rest(func: &mut [u32], text: &[u8], kind: Selection, from: Cursor) -> 
 }
 
 // The row of a select.
-fn select_row(func: &mut [u32], from: Marks, kind: Selection)
+fn select_row(func: &mut [u32], from: Marks, kind: Selection, control: u32)
     requires { ⌜ scratchWords ≤ length (now func) ⌝ }
-    ensures { λ _. ⌜ now (func .exit) ≡ nodeRow from (selectNumber kind) (selectOpcode kind) (now (func .entry)) ⌝ }
+    ensures { λ _. ⌜ now (func .exit) ≡ nodeRow from (selectNumber kind) (selectOpcode kind) control (now (func .entry)) ⌝ }
     ensures { λ _. ⌜ length (now (func .exit)) ≡ length (now (func .entry)) ⌝ }
 {
     match kind {
-        Selection::Bool => keep::node_row(func, from, NodeKind::SelectBool, 0),
-        Selection::Inst(n) => keep::node_row(func, from, NodeKind::SelectInst, n),
+        Selection::Bool => keep::node_row(func, from, NodeKind::SelectBool, 0, control),
+        Selection::Inst(n) => keep::node_row(func, from, NodeKind::SelectInst, n, control),
     }
 }
 
-// `(select K V (cases R..) (outs (A T)..))`, behind `(select`.
+// `(select K V (cases R..) (outs (A T)..) U)`, behind `(select`.
 pub fn select_line(func: &mut [u32], text: &[u8], from: Cursor) -> Step
     requires { ⌜ scratchWords ≤ length (now func) ⌝ }
     ensures { λ r. ⌜ Stores selectTail keepNode (now (text .entry)) (from .at) (stepOf r) (now (func .entry)) (now (func .exit)) ⌝ }
@@ -157,8 +161,11 @@ pub fn select_line(func: &mut [u32], text: &[u8], from: Cursor) -> Step
     let Step::On(d) = select_rest(func, text, k, c) else {
         return Step::Refused;
     };
-    select_row(func, marks, k);
-    Step::On(d)
+    let NumberRead::Number(u, e) = control_end(text, d) else {
+        return Step::Refused;
+    };
+    select_row(func, marks, k, u);
+    Step::On(e)
 }
 
 // The opening word of a node's line.

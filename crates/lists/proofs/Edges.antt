@@ -46,27 +46,27 @@ module _ (F : Func) where
 
   loop-phi : (d : Node) (n : ℕ) {j : ℕ} → j < length (inBlock F d n .keys) → isLoop d ≡ true
   loop-phi (block is) n h = absurd (omega arith)
-  loop-phi (select k v cs ds) n h = absurd (omega arith)
-  loop-phi (loop b c is) n h = refl
+  loop-phi (select k v cs ds u) n h = absurd (omega arith)
+  loop-phi (loop b c is u) n h = refl
   loop-phi (exit i vs) n h = absurd (omega arith)
 
   loop-decls : (d : Node) (n : ℕ) → isLoop d ≡ true → regionOf F (getD (childrenOf d) 0 0) .ins ≡ inBlock F d n .decls
   loop-decls (block is) n e = absurd (false≢true e)
-  loop-decls (select k v cs ds) n e = absurd (false≢true e)
-  loop-decls (loop b c is) n e = refl
+  loop-decls (select k v cs ds u) n e = absurd (false≢true e)
+  loop-decls (loop b c is u) n e = refl
   loop-decls (exit i vs) n e = absurd (false≢true e)
 
   init-below : (d : Node) (n : ℕ) {j : ℕ} → j < length (inBlock F d n .defaults) → 1 + j < length (nodeValues d)
   init-below (block is) n h = absurd (omega arith)
-  init-below (select k v cs ds) n h = absurd (omega arith)
-  init-below (loop b c is) n h = omega arith
+  init-below (select k v cs ds u) n h = absurd (omega arith)
+  init-below (loop b c is u) n h = omega arith
   init-below (exit i vs) n h = absurd (omega arith)
 
   init-at : (d : Node) (n j : ℕ) → j < length (inBlock F d n .defaults)
       → getD (nodeValues d) (1 + j) (const 0) ≡ getD (inBlock F d n .defaults) j (const 0)
   init-at (block is) n j h = absurd (omega arith)
-  init-at (select k v cs ds) n j h = absurd (omega arith)
-  init-at (loop b c is) n j h = ap (λ (i : ℕ). getD (c ∷ is) i (const 0)) (one-add j)
+  init-at (select k v cs ds u) n j h = absurd (omega arith)
+  init-at (loop b c is u) n j h = ap (λ (i : ℕ). getD (c ∷ is) i (const 0)) (one-add j)
   init-at (exit i vs) n j h = absurd (omega arith)
 
 -- ---- phi j of the i-th visited point, by its kind

@@ -114,9 +114,9 @@ module _ (F : Func) (n : ℕ) where
 
   node-opcode : (d : Node) → nodeOpcode d (nodeKind d) ≡ termOpcode (inBlock F d n .term .kind) (nodeValues d)
   node-opcode (block is) = refl
-  node-opcode (select boolCond v cs ds) = refl
-  node-opcode (select (spvInst i) v cs ds) = refl
-  node-opcode (loop b c is) = refl
+  node-opcode (select boolCond v cs ds u) = refl
+  node-opcode (select (spvInst i) v cs ds u) = refl
+  node-opcode (loop b c is u) = refl
   node-opcode (exit i vs) = refl
 
   pub node-opcode-is : (d : Node) {k x : NodeKind} → k ≡ nodeKind d → k ≡ x
@@ -125,7 +125,7 @@ module _ (F : Func) (n : ℕ) where
 
   pub node-imms : (d : Node) → instImms (nodeInsts d) ≡ termImms (inBlock F d n .term .kind)
   node-imms (block is) = refl
-  node-imms (select boolCond v cs ds) = refl
-  node-imms (select (spvInst i) v cs ds) = append-nil (i .imms)
-  node-imms (loop b c is) = refl
+  node-imms (select boolCond v cs ds u) = refl
+  node-imms (select (spvInst i) v cs ds u) = append-nil (i .imms)
+  node-imms (loop b c is u) = refl
   node-imms (exit i vs) = append-nil (i .imms)

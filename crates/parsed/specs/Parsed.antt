@@ -15,7 +15,7 @@ use Rattle.lifting.specs.Lists.{every, gather, within, distinct, below, keys}
 use Rattle.lifting.specs.Ast.{Value, const, regionInput, nodeOutput, dataInstOutput, block, call, ControlInst, Func}
 use Rattle.lifting.specs.Parts as text
 use Rattle.lifting.specs.Limits.{maxRegions, maxTargets, maxOpcode, withinLimits}
-use Rattle.lifting.specs.References.{named, instFits, referencesHold}
+use Rattle.lifting.specs.References.{named, instFits, controlHolds, referencesHold}
 use Rattle.lifting.specs.Tree.{standsOnce, aroundItself, rootsHaveWaysOut, isTree}
 use Rattle.lifting.specs.Order.{roots}
 use Rattle.lifting.specs.Control.{ctrlFits, isRoot, kindFits, reachedFit, controlFits}
@@ -88,7 +88,8 @@ module _ (F : Func) (references : referencesHold F ≡ true) where
   below-all : Below
   unfolding referencesHold
   below-all =
-      let a = both _ (every instFits (text.insts F)) references in
+      let z = both _ (every instFits (text.insts F)) references in
+      let a = both _ (every controlHolds (F .nodes)) (z .0) in
       let b = both _ (every (λ c. leb (c .opcode) maxOpcode) (F .consts)) (a .0) in
       let c = both _ (distinct (map (λ c. c .id) (F .consts))) (b .0) in
       let d = both _ (every (λ x. ltb 0 x) (text.requiredIds F)) (c .0) in

@@ -88,8 +88,8 @@ module _ (F : Func) where
 
     child-vals : (d : Node) (n : ℕ) (vs : List Value) → All (Named F) vs → All EntryNamed (childTerm F d n vs .vals)
     child-vals (block is) n vs h = tt
-    child-vals (select k v cs ds) n vs h = some-named (nodeExit n) vs h
-    child-vals (loop b c is) n vs h = loop-vals (always F c) n c vs h
+    child-vals (select k v cs ds u) n vs h = some-named (nodeExit n) vs h
+    child-vals (loop b c is u) n vs h = loop-vals (always F c) n c vs h
     child-vals (exit i ws) n vs h = tt
 
     exit-vals : (r : ℕ) (p : Place) → All EntryNamed (exitTerm F r p .vals)
@@ -98,14 +98,14 @@ module _ (F : Func) where
 
     in-vals : (d : Node) (n : ℕ) → All EntryNamed (inBlock F d n .term .vals)
     in-vals (block is) n = tt
-    in-vals (select k v cs ds) n = tt
-    in-vals (loop b c is) n = tt
+    in-vals (select k v cs ds u) n = tt
+    in-vals (loop b c is u) n = tt
     in-vals (exit i vs) n = tt
 
     in-defaults : (d : Node) (n : ℕ) → All (Named F) (nodeValues d) → All (Named F) (inBlock F d n .defaults)
     in-defaults (block is) n h = tt
-    in-defaults (select k v cs ds) n h = tt
-    in-defaults (loop b c is) n h = h .1
+    in-defaults (select k v cs ds u) n h = tt
+    in-defaults (loop b c is u) n h = h .1
     in-defaults (exit i vs) n h = tt
 
     block-vals : (p q : CfgPoint) → All EntryNamed (blockOf F p q .term .vals)

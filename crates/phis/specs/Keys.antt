@@ -47,8 +47,8 @@ module _ (F : Func) (j : ℕ) where
 
   in-key : (d : Node) (n : ℕ) → j < length (inBlock F d n .keys) → Key (inBlock F d n .keys) (regionInput (getD (childrenOf d) 0 0) j)
   in-key (block is) n h = absurd (omega arith)
-  in-key (select k v cs ds) n h = absurd (omega arith)
-  in-key (loop b c is) n h = numbered (regionInput b) (length (regionOf F b .ins)) (λ l. lt-ltb j (length (regionOf F b .ins)) l) h
+  in-key (select k v cs ds u) n h = absurd (omega arith)
+  in-key (loop b c is u) n h = numbered (regionInput b) (length (regionOf F b .ins)) (λ l. lt-ltb j (length (regionOf F b .ins)) l) h
   in-key (exit i vs) n h = absurd (omega arith)
 
   point-key : (p q : CfgPoint) → j < length (blockOf F p q .keys) → Key (blockOf F p q .keys) (keyOf F p j)

@@ -26,8 +26,8 @@ text =
     ++ bytes "(region (in) (nodes) (out))\n"
     ++ bytes "(region (in) (nodes) (out))\n"
     ++ bytes "(block)\n"
-    ++ bytes "(select bool (c 0) (cases 1 2) (outs))\n"
-    ++ bytes "(loop 3 (c 0) (init))\n"
+    ++ bytes "(select bool (c 0) (cases 1 2) (outs) 0)\n"
+    ++ bytes "(loop 3 (c 0) (init) 0)\n"
     ++ bytes "(ctrl 0 0 branch (ins) (to 4) (vals))\n"
     ++ bytes "(ctrl 4 0 return (ins) (to) (vals))\n"
 

@@ -18,7 +18,7 @@ use Rattle.func.specs.Decode.{numberOf}
 use Rattle.func.specs.Kinds.{asValue}
 use Rattle.func.specs.Tables.{Within, word, whole-pool}
 use Rattle.references.specs.declared.Rule.{Rule}
-use Rattle.references.specs.declared.Rule.the-variants.{Named, ConstId, ParamType, DeclType, Callee, ConstOpcode, ImmFits, NodeInst, OpInst}
+use Rattle.references.specs.declared.Rule.the-variants.{Named, ConstId, ParamType, DeclType, Callee, ConstOpcode, ImmFits, NodeControl, NodeInst, OpInst}
 use Rattle.references.specs.Test.{namedTest, calleeTest, opInstTest, poolFor, ruleTest, constIds}
 use Rattle.references.specs.Limits.{Ready}
 
@@ -64,6 +64,7 @@ pool-below DeclType = lit< tt
 pool-below Callee = lit< tt
 pool-below ConstOpcode = lit< tt
 pool-below ImmFits = lit< tt
+pool-below NodeControl = lit< tt
 pool-below NodeInst = lit< tt
 pool-below OpInst = lit< tt
 

@@ -10,11 +10,11 @@ use lib.Dec.{leb, ltb, eqb, lit<}
 use lib.ListN.{length, getD, List·getD-eq-default}
 use borrow.Author.Tests.{ltb-true, ltb-false, lt-ltb, le-ltb, eqb-true, eqb-false, eq-eqb, ne-eqb}
 use Rattle.lifting.specs.Lists.{every, gather, keys, distinct}
-use Rattle.lifting.specs.Limits.{maxOpcode, withinLimits}
+use Rattle.lifting.specs.Limits.{maxOpcode, maxMergeControl, withinLimits}
 use Rattle.lifting.specs.Ast.{Value, const, regionInput, nodeOutput, dataInstOutput, Inst, DataInstKind, inst, call, ext, Op, boolCond, spvInst, Node, block, select, loop, exit, Region, ControlInst, Func}
 use Rattle.lifting.specs.Parts.{outsOf, nodeInsts, opInsts, ctrlInsts, calleeIds}
 use Rattle.lifting.specs.Parts as text
-use Rattle.lifting.specs.References.{named, immFits, instFits, referencesHold}
+use Rattle.lifting.specs.References.{named, immFits, instFits, controlHolds, referencesHold}
 use Rattle.func.specs.Layout.{poolTotal, consts, params, decls, values, imms, targets, nodeRefs, opRefs, childRefs, entries, regions, nodes, ops, ctrls, inside, entryRoom, entry-room}
 use Rattle.func.specs.Store.{count, most, view}
 use Rattle.func.specs.Adds.{largest}
@@ -25,7 +25,7 @@ use Rattle.func.specs.Back.{lowered, value-lowered}
 use Rattle.func.specs.Tables.{word}
 use Rattle.func.specs.Stored.{Stored, ins-count, outs-count, op-type}
 use Rattle.references.specs.declared.Rule.{Rule}
-use Rattle.references.specs.declared.Rule.the-variants.{Named, ConstId, ParamType, DeclType, Callee, ConstOpcode, ImmFits, NodeInst, OpInst}
+use Rattle.references.specs.declared.Rule.the-variants.{Named, ConstId, ParamType, DeclType, Callee, ConstOpcode, ImmFits, NodeControl, NodeInst, OpInst}
 use Rattle.references.specs.Every.{every-append, every-gather, every-map, every-keys, every-same, every-both, every-each, below-largest}
 use Rattle.references.specs.Test.{poolFor, opcodeFits, namedTest, calleeTest, opInstTest, allTest, ruleTest, belowTest, regionsTest, idsTest, distinctTest, instsTest, referencesTest}
 use Rattle.references.specs.Limits.{limits-test, Ready, ready}
@@ -62,9 +62,9 @@ by-row r n a b l p q = go (ltb r n) refl
 node-opcode : (n : Node) → opcodeFits (opcodeOf (nodeInsts n)) ≡ every (λ i. opcodeFits (i .opcode)) (nodeInsts n)
 unfolding opcodeFits ℕ-discrete
 node-opcode (block is) = refl
-node-opcode (select boolCond v cs ds) = refl
-node-opcode (select (spvInst i) v cs ds) = sym (and-true (opcodeFits (i .opcode)))
-node-opcode (loop b c vs) = refl
+node-opcode (select boolCond v cs ds u) = refl
+node-opcode (select (spvInst i) v cs ds u) = sym (and-true (opcodeFits (i .opcode)))
+node-opcode (loop b c vs u) = refl
 node-opcode (exit i vs) = sym (and-true (opcodeFits (i .opcode)))
 
 op-opcode : (k : DataInstKind) → opInstTest (opNumber k) (opFirst k) ≡ every (λ i. opcodeFits (i .opcode)) (opInsts k)
@@ -161,6 +161,10 @@ module _ {F : Func} {w : List ℕ} (s : Stored F w) (limits : withinLimits F ≡
       every-each (ruleTest w NodeInst) (λ n. every fits (nodeInsts n)) (λ e n r. ap opcodeFits (r .cell 1 (lit< tt)) ∙ node-opcode n) (s .rows .nodes (fit .fits NodeInst))
       ∙ sym (every-gather fits nodeInsts (F .nodes))
 
+  node-controls : allTest w NodeControl ≡ every controlHolds (F .nodes)
+  unfolding allTest nodeCells
+  node-controls = every-each (ruleTest w NodeControl) controlHolds (λ e n r. ap (λ (u : ℕ). leb u maxMergeControl) (r .cell 7 (lit< tt))) (s .rows .nodes (fit .fits NodeControl))
+
   op-insts : allTest w OpInst ≡ every fits (gather (λ o. opInsts (o .kind)) (F .ops))
   unfolding allTest opCells fits
   op-insts =
@@ -251,6 +255,6 @@ module _ {F : Func} {w : List ℕ} (s : Stored F w) (limits : withinLimits F ≡
 pub references-test : (F : Func) (w : List ℕ) (b : Bool) → Stored F w → withinLimits F ≡ true → b ≡ every (λ i. opcodeFits (i .opcode)) (gather (λ c. ctrlInsts (c .1 .kind)) (F .ctrls)) → (referencesTest w && b) ≡ referencesHold F
 unfolding referencesTest referencesHold fits
 references-test F w b s h e =
-    let x = allTest w Named && belowTest nodeRefs nodes w && belowTest opRefs ops w && regionsTest w && idsTest w && distinctTest w && allTest w ConstOpcode in
+    let x = allTest w Named && belowTest nodeRefs nodes w && belowTest opRefs ops w && regionsTest w && idsTest w && distinctTest w && allTest w ConstOpcode && allTest w NodeControl in
     and-assoc x (instsTest w) b
-    ∙ (λ i. values-named s h i && nodes-below s h i && ops-below s h i && regions-below s h i && ids-given s h i && ids-distinct s h i && const-opcodes s h i && insts-fit s h b e i)
+    ∙ (λ i. values-named s h i && nodes-below s h i && ops-below s h i && regions-below s h i && ids-given s h i && ids-distinct s h i && const-opcodes s h i && node-controls s h i && insts-fit s h b e i)

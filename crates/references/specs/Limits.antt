@@ -17,7 +17,7 @@ use Rattle.func.specs.Store.{count}
 use Rattle.func.specs.Whole.{sizes}
 use Rattle.func.specs.Stored.{Stored}
 use Rattle.references.specs.declared.Rule.{Rule}
-use Rattle.references.specs.declared.Rule.the-variants.{Named, ConstId, ParamType, DeclType, Callee, ConstOpcode, ImmFits, NodeInst, OpInst}
+use Rattle.references.specs.declared.Rule.the-variants.{Named, ConstId, ParamType, DeclType, Callee, ConstOpcode, ImmFits, NodeControl, NodeInst, OpInst}
 use Rattle.references.specs.Test.{limitsTest, poolFor}
 
 -- a count stops at one above the room, so it is over the room exactly if the size is
@@ -72,6 +72,7 @@ ready w s e =
         | Callee ↦ leb-true _ _ (o .1)
         | ConstOpcode ↦ leb-true _ _ (c .1)
         | ImmFits ↦ leb-true _ _ (g .1)
+        | NodeControl ↦ leb-true _ _ (n .1)
         | NodeInst ↦ leb-true _ _ (n .1)
         | OpInst ↦ leb-true _ _ (o .1)
       ];

@@ -9,7 +9,7 @@ use lib.Dec.{leb, ltb, eqb}
 use lib.ListN.{getD}
 use Rattle.opcodes.specs.Table.{table}
 use Rattle.lifting.specs.Lists.{every, within, distinct}
-use Rattle.lifting.specs.Limits.{maxRegions, maxNodes, maxOps, maxConsts, maxParams, maxValues, maxDecls, maxImmediates, maxTargets, maxOpcode}
+use Rattle.lifting.specs.Limits.{maxRegions, maxNodes, maxOps, maxConsts, maxParams, maxValues, maxDecls, maxImmediates, maxTargets, maxOpcode, maxMergeControl}
 use Rattle.lifting.specs.Ast.{Value, const, regionInput, nodeOutput, dataInstOutput}
 use Rattle.lifting.specs.References.{immFits}
 use Rattle.func.specs.Layout.{consts, params, decls, values, imms, targets, nodeRefs, opRefs, childRefs, entries, regions, nodes, ops, ctrls}
@@ -17,7 +17,7 @@ use Rattle.func.specs.Store.{count, most, view}
 use Rattle.func.specs.Tables.{word}
 use Rattle.func.specs.Decode.{numberOf, immOf, valueOf}
 use Rattle.references.specs.declared.Rule.{Rule}
-use Rattle.references.specs.declared.Rule.the-variants.{Named, ConstId, ParamType, DeclType, Callee, ConstOpcode, ImmFits, NodeInst, OpInst}
+use Rattle.references.specs.declared.Rule.the-variants.{Named, ConstId, ParamType, DeclType, Callee, ConstOpcode, ImmFits, NodeControl, NodeInst, OpInst}
 
 unfoldable pub limitsTest : List ℕ → Bool
 limitsTest w =
@@ -51,7 +51,8 @@ abbrev pub opInstTest : ℕ → ℕ → Bool
 opInstTest zero a = opcodeFits a
 opInstTest (suc k) a = true
 
--- the pool of each rule, and what the rule asks of an entry. A node without an INST has 0 for its opcode, which fits.
+-- the pool of each rule, and what the rule asks of an entry. A node without an INST has 0 for its opcode, and one
+-- without a merge 0 for its control number, which fit.
 abbrev pub poolFor : Rule → ℕ
 poolFor Named = values
 poolFor ConstId = consts
@@ -60,6 +61,7 @@ poolFor DeclType = decls
 poolFor Callee = ops
 poolFor ConstOpcode = consts
 poolFor ImmFits = imms
+poolFor NodeControl = nodes
 poolFor NodeInst = nodes
 poolFor OpInst = ops
 
@@ -71,6 +73,7 @@ ruleTest w DeclType e = ltb 0 (getD e 1 0)
 ruleTest w Callee e = calleeTest (getD e 2 0) (getD e 3 0)
 ruleTest w ConstOpcode e = leb (getD e 1 0) maxOpcode
 ruleTest w ImmFits e = immFits (immOf e)
+ruleTest w NodeControl e = leb (getD e 7 0) maxMergeControl
 ruleTest w NodeInst e = opcodeFits (getD e 1 0)
 ruleTest w OpInst e = opInstTest (getD e 2 0) (getD e 3 0)
 
@@ -107,4 +110,5 @@ referencesTest w =
     && idsTest w
     && distinctTest w
     && allTest w ConstOpcode
+    && allTest w NodeControl
     && instsTest w

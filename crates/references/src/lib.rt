@@ -46,6 +46,8 @@ pub enum Rule {
     ConstOpcode,
     // an immediate fits
     ImmFits,
+    // the control number of a merge is at most 2
+    NodeControl,
     // an INST's opcode fits
     NodeInst,
     OpInst,
@@ -136,6 +138,7 @@ pub fn references(func: &[u32], ctrls: bool) -> bool
     let d = both(c, ids_given(func));
     let e = both(d, consts_distinct(func));
     let f = both(e, all_hold(func, Rule::ConstOpcode));
-    let g = both(f, insts_fit(func));
-    both(g, ctrls)
+    let g = both(f, all_hold(func, Rule::NodeControl));
+    let h = both(g, insts_fit(func));
+    both(h, ctrls)
 }

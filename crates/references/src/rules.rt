@@ -16,6 +16,7 @@ use func::look::value;
 use func::pools::wide;
 use func::rows::row_const_id;
 use func::rows::row_const_opcode;
+use func::rows::row_control;
 use func::rows::row_decl_type;
 use func::rows::row_ins;
 use func::rows::row_op_first;
@@ -135,6 +136,7 @@ fn pool_for(rule: Rule) -> usize
         Rule::Callee => OPS,
         Rule::ConstOpcode => CONSTS,
         Rule::ImmFits => IMMS,
+        Rule::NodeControl => NODES,
         Rule::NodeInst => NODES,
         Rule::OpInst => OPS,
     }
@@ -154,6 +156,7 @@ fn holds(func: &[u32], rule: Rule, i: usize) -> bool
         Rule::Callee => callee_given(row_op_kind(func, i), row_op_first(func, i)),
         Rule::ConstOpcode => row_const_opcode(func, i) <= 65535,
         Rule::ImmFits => imm_fits(imm(func, i)),
+        Rule::NodeControl => row_control(func, i) <= 2,
         Rule::NodeInst => opcode_fits(row_opcode(func, i)),
         Rule::OpInst => op_inst_fits(row_op_kind(func, i), row_op_first(func, i)),
     }

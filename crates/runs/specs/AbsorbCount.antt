@@ -29,8 +29,8 @@ sole-straight e q h = go (e .attrs) (e .kind) (e .ins) (e .targets) (e .vals) (e
     go zero (exitInvocation i) is ts vs m h = absurd (none-some h)
     go zero branch (v ∷ is) ts vs m h = absurd (none-some h)
     go zero branch [] ts (v ∷ vs) m h = absurd (none-some h)
-    go zero branch [] ts [] (selectionMerge a) h = absurd (none-some h)
-    go zero branch [] ts [] (loopMerge a b) h = absurd (none-some h)
+    go zero branch [] ts [] (selectionMerge a u) h = absurd (none-some h)
+    go zero branch [] ts [] (loopMerge a b u) h = absurd (none-some h)
     go zero branch [] [] [] noMerge h = absurd (none-some h)
     go zero branch [] (p ∷ []) [] noMerge h = ap straight (some-inj h)
       where

@@ -86,15 +86,15 @@ module _ (F : Func) where
 
   pub record Fitting : Type 0 where
     -- 6: unequal counts
-    pub loop-ins : (n : ℕ) {b : ℕ} {c : Value} {is : List Value} → nodeOf F n ≡ loop b c is → length is ≡ length (regionOf F b .ins)
-    pub loop-outs : (n : ℕ) {b : ℕ} {c : Value} {is : List Value} → nodeOf F n ≡ loop b c is → length (regionOf F b .outs) ≡ length (regionOf F b .ins)
-    pub case-outs : (n c : ℕ) {k : SelectionKind} {v : Value} {cs : List ℕ} {ds : List Decl} → nodeOf F n ≡ select k v cs ds → In c cs → OutsFit F c (length ds)
+    pub loop-ins : (n : ℕ) {b : ℕ} {c : Value} {is : List Value} {u : ℕ} → nodeOf F n ≡ loop b c is u → length is ≡ length (regionOf F b .ins)
+    pub loop-outs : (n : ℕ) {b : ℕ} {c : Value} {is : List Value} {u : ℕ} → nodeOf F n ≡ loop b c is u → length (regionOf F b .outs) ≡ length (regionOf F b .ins)
+    pub case-outs : (n c : ℕ) {k : SelectionKind} {v : Value} {cs : List ℕ} {ds : List Decl} {u : ℕ} → nodeOf F n ≡ select k v cs ds u → In c cs → OutsFit F c (length ds)
     pub edge-ins : (r s : ℕ) {c : ControlInst} → ctrlOf F r ≡ some c → In s (c .to) → length (valsFor c s) ≡ length (regionOf F s .ins)
-    pub cases-count : (n : ℕ) {k : SelectionKind} {v : Value} {cs : List ℕ} {ds : List Decl} → nodeOf F n ≡ select k v cs ds → Enough k (length cs)
+    pub cases-count : (n : ℕ) {k : SelectionKind} {v : Value} {cs : List ℕ} {ds : List Decl} {u : ℕ} → nodeOf F n ≡ select k v cs ds u → Enough k (length cs)
     -- 7: counts of targets
     pub ctrl-way : (r : ℕ) {c : ControlInst} → ctrlOf F r ≡ some c → WayFit (c .kind) (length (c .to))
     -- 4: opcodes of the table
-    pub select-free : (n : ℕ) {k : SelectionKind} {v : Value} {cs : List ℕ} {ds : List Decl} → nodeOf F n ≡ select k v cs ds → FreeSelection k
+    pub select-free : (n : ℕ) {k : SelectionKind} {v : Value} {cs : List ℕ} {ds : List Decl} {u : ℕ} → nodeOf F n ≡ select k v cs ds u → FreeSelection k
     pub exit-free : (n : ℕ) {i : Inst} {vs : List Value} → nodeOf F n ≡ exit i vs → FreeInst i
     pub ctrl-free : (r : ℕ) {c : ControlInst} → ctrlOf F r ≡ some c → FreeKind (c .kind)
     pub op-free : (i : ℕ) → FreeOp (opOf F i .kind)

@@ -92,8 +92,8 @@ module _ (F : Func) (first : ℕ) (ok : Accepted F first) (body : hasBody (F .re
 
   in-keys : (n : ℕ) (d : Node) → All NoCon (inBlock F d n .keys)
   in-keys n (Node.block is) = tt
-  in-keys n (Node.select kd v cs ds) = tt
-  in-keys n (loop b c is) = from-rin b 0 (length (regionOf F b .ins))
+  in-keys n (Node.select kd v cs ds u) = tt
+  in-keys n (loop b c is u) = from-rin b 0 (length (regionOf F b .ins))
   in-keys n (Node.exit i vs) = tt
 
   pub keys-plain : All (λ (x : CfgPoint × BlockLifting). All NoCon (x .1 .keys)) T

@@ -32,8 +32,8 @@ last-of (next {x} {s} sf) m k e = last-of sf x s refl ∙ more s e
 
 abbrev pub isSelect : Node → Bool
 isSelect (block is) = false
-isSelect (select k v cs ds) = true
-isSelect (loop b c is) = false
+isSelect (select k v cs ds u) = true
+isSelect (loop b c is u) = false
 isSelect (exit i vs) = false
 
 module _ (F : Func) where
@@ -95,8 +95,8 @@ module _ (F : Func) where
 
     behind-in : (n : ℕ) (d : Node) → nodeOf F n ≡ d → (q : CfgPoint) → In q (labels (inBlock F d n .term)) → Ended q → ⊥
     behind-in n (block is) e q h en = only (nodeExit n) q h (λ z. no-exit e refl z en)
-    behind-in n (select k v cs ds) e q h en = elim (in-cases h) [ inl z ↦ no-exit e refl z en | inr i ↦ (let w = map-in regionEntry cs i in subst Ended (w .2) en) ]
-    behind-in n (loop b c is) e q h en = elim (in-cases h) [
+    behind-in n (select k v cs ds u) e q h en = elim (in-cases h) [ inl z ↦ no-exit e refl z en | inr i ↦ (let w = map-in regionEntry cs i in subst Ended (w .2) en) ]
+    behind-in n (loop b c is u) e q h en = elim (in-cases h) [
       | inl z ↦ no-exit e refl z en
       | inr i ↦ elim (in-cases i) [
         | inl z ↦ (let ce : CaseEnds b = subst Ended z en in
@@ -117,8 +117,8 @@ module _ (F : Func) where
 
     behind-child : (n : ℕ) (d : Node) (vs : List Value) → nodeOf F n ≡ d → (q : CfgPoint) → In q (labels (childTerm F d n vs)) → Ended q → ⊥
     behind-child n (block is) vs e q h en = in-nil h
-    behind-child n (select k v cs ds) vs e q h en = only (nodeExit n) q h (λ z. no-exit e refl z en)
-    behind-child n (loop b c is) vs e q h en = by-test (always F c) h
+    behind-child n (select k v cs ds u) vs e q h en = only (nodeExit n) q h (λ z. no-exit e refl z en)
+    behind-child n (loop b c is u) vs e q h en = by-test (always F c) h
       where
         by-test : (a : Bool) → In q (labels (loopTerm F a n c vs)) → ⊥
         by-test true h = only (nodeEntry n) q h (λ z. subst Ended z en)

@@ -139,7 +139,7 @@ module _ (F : Func) (ok : Shaped F) where
       let same : m ≡ n = ok .forest .child-once m n b (subst (λ (d : Node). In b (childrenOf d)) (sym q) here) i in
       absurd (false≢true (ap isSelect (sym q) ∙ ap (λ (x : ℕ). isSelect (nodeOf F x)) same ∙ e))
 
-  pub case-ends : (n : ℕ) {c : ℕ} {p : Place} {k : SelectionKind} {v : Value} {cs : List ℕ} {ds : List Decl} → nodeOf F n ≡ select k v cs ds → In c cs → endsInExit F (regionOf F c .nodes) ≡ true → Visited F c p → CaseEnds F c
+  pub case-ends : (n : ℕ) {c : ℕ} {p : Place} {k : SelectionKind} {v : Value} {cs : List ℕ} {ds : List Decl} {u : ℕ} → nodeOf F n ≡ select k v cs ds u → In c cs → endsInExit F (regionOf F c .nodes) ≡ true → Visited F c p → CaseEnds F c
   case-ends n {c} e i en w = case-at n (ap isSelect e) (subst (λ (d : Node). In c (childrenOf d)) (sym e) i) en w
 
   -- ---- the counts of the two kinds of points

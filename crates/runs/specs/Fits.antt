@@ -155,8 +155,8 @@ module _ (F : Func) where
       let tests = both body _ (both (body && _) _ counts .0) in
       all-at (λ (d : Node). nodeFits F d ≡ true) (F .nodes) (every-all (nodeFits F) _ (λ d t. t) (F .nodes) (tests .1)) _ refl
 
-  loop-fits : (b : ℕ) (c : Value) (is : List Value) → nodeFits F (loop b c is) ≡ true → (length is ≡ length (regionOf F b .ins)) × (length (regionOf F b .outs) ≡ length (regionOf F b .ins))
-  loop-fits b c is e =
+  loop-fits : (b : ℕ) (c : Value) (is : List Value) (u : ℕ) → nodeFits F (loop b c is u) ≡ true → (length is ≡ length (regionOf F b .ins)) × (length (regionOf F b .outs) ≡ length (regionOf F b .ins))
+  loop-fits b c is u e =
       let n = length (regionOf F b .ins) in
       let t = both (eqb (length is) n) (eqb (length (regionOf F b .outs)) n) e in
       (eqb-true (length is) n (t .0), eqb-true (length (regionOf F b .outs)) n (t .1))
@@ -168,12 +168,12 @@ module _ (F : Func) where
       by-test true q h = inl (eqb-true (length (regionOf F c .outs)) n q)
       by-test false q h = let t = both (eqb (length (regionOf F c .outs)) 0) (endsInExit F (regionOf F c .nodes)) h in inr (eqb-true (length (regionOf F c .outs)) 0 (t .0), t .1)
 
-  select-fits : (k : SelectionKind) (v : Value) (cs : List ℕ) (ds : List Decl) → nodeFits F (select k v cs ds) ≡ true → All (λ c. OutsFit F c (length ds)) cs × Enough k (length cs)
-  select-fits k v cs ds e =
+  select-fits : (k : SelectionKind) (v : Value) (cs : List ℕ) (ds : List Decl) (u : ℕ) → nodeFits F (select k v cs ds u) ≡ true → All (λ c. OutsFit F c (length ds)) cs × Enough k (length cs)
+  select-fits k v cs ds u e =
       let none-in : ℕ → Bool = λ c. eqb (length (regionOf F c .ins)) 0 in
       let case-fits : ℕ → Bool = λ c. none-in c && outsFit F c (length ds) in
       let t = both (every case-fits cs) (casesFit k (length cs)) e in
-      (every-all case-fits _ (λ c u. outs-fit c (length ds) (both (none-in c) _ u .1)) cs (t .0), enough k (length cs) (t .1))
+      (every-all case-fits _ (λ c h. outs-fit c (length ds) (both (none-in c) _ h .1)) cs (t .0), enough k (length cs) (t .1))
 
   edge-fits : countsAgree F ≡ true → (r : ℕ) {c : ControlInst} → ctrlOf F r ≡ some c → (s : ℕ) → In s (c .to) → length (valsFor c s) ≡ length (regionOf F s .ins)
   unfolding countsAgree
@@ -186,11 +186,11 @@ module _ (F : Func) where
   -- 6, 7, and the opcodes of 4
   pub fitting : Refers F → countsAgree F ≡ true → controlFits F ≡ true → Fitting F
   fitting ok counts control = record {
-    loop-ins = λ n {b} {c} {is} e. loop-fits b c is (rw e at (node-fits counts n)) .0;
-    loop-outs = λ n {b} {c} {is} e. loop-fits b c is (rw e at (node-fits counts n)) .1;
-    case-outs = λ n c {k} {v} {cs} {ds} e. all-in _ cs (select-fits k v cs ds (rw e at (node-fits counts n)) .0) c;
+    loop-ins = λ n {b} {c} {is} {u} e. loop-fits b c is u (rw e at (node-fits counts n)) .0;
+    loop-outs = λ n {b} {c} {is} {u} e. loop-fits b c is u (rw e at (node-fits counts n)) .1;
+    case-outs = λ n c {k} {v} {cs} {ds} {u} e. all-in _ cs (select-fits k v cs ds u (rw e at (node-fits counts n)) .0) c;
     edge-ins = λ r s e. edge-fits counts r e s;
-    cases-count = λ n {k} {v} {cs} {ds} e. select-fits k v cs ds (rw e at (node-fits counts n)) .1;
+    cases-count = λ n {k} {v} {cs} {ds} {u} e. select-fits k v cs ds u (rw e at (node-fits counts n)) .1;
     ctrl-way = λ r e. ctrl-fits control r e .1;
     select-free = λ n {k} e. free-selection k (rw e at (ok .node-free n));
     exit-free = λ n e. (rw e at (ok .node-free n)) .0;

@@ -200,8 +200,8 @@ module _ (F : Func) (depth : ℕ) (tr : Tree F depth) (root0 : Root F 0) where
 
   in-ok : (n : ℕ) (d : Node) → nodeOf F n ≡ d → KeysOk (nodeEntry n, inBlock F d n)
   in-ok n (block is) e = (tt, λ a i. absurd (in-nil i))
-  in-ok n (select k v cs ds) e = (tt, λ a i. absurd (in-nil i))
-  in-ok n (loop b c is) e =
+  in-ok n (select k v cs ds u) e = (tt, λ a i. absurd (in-nil i))
+  in-ok n (loop b c is u) e =
       (inputs-nodup b (length (regionOf F b .ins)), tabulated (regionInput b) _ (length (regionOf F b .ins)) (λ j. at-loop (subst (λ (d : Node). In b (childrenOf d)) (sym e) here)))
   in-ok n (exit j vs) e = (tt, λ a i. absurd (in-nil i))
 
@@ -224,8 +224,8 @@ module _ (F : Func) (depth : ℕ) (tr : Tree F depth) (root0 : Root F 0) where
 
     in-ops : (n : ℕ) (d : Node) → nodeOf F n ≡ d → OpsFine (nodeEntry n, inBlock F d n)
     in-ops n (block is) e = (subst (λ (d : Node). NoDup (blockOps d)) e (once .ops-once n), λ i h. (n, refl, subst (λ (d : Node). In i (blockOps d)) (sym e) h))
-    in-ops n (select k v cs ds) e = (tt, λ i h. absurd (in-nil h))
-    in-ops n (loop b c is) e = (tt, λ i h. absurd (in-nil h))
+    in-ops n (select k v cs ds u) e = (tt, λ i h. absurd (in-nil h))
+    in-ops n (loop b c is u) e = (tt, λ i h. absurd (in-nil h))
     in-ops n (exit j vs) e = (tt, λ i h. absurd (in-nil h))
 
     -- over the walk

@@ -37,4 +37,5 @@ pub mod ListIds
 pub mod ListPhis
 pub mod EveryText
 pub mod Demand3
+pub mod Controls
 pub mod WitnessRuns

@@ -125,8 +125,8 @@ module _ (x : ℕ) where
     gives-merge : (m : Merge) → gives (mergeInsts F first T K m) ≡ 0
     unfolding mergeInsts
     gives-merge noMerge = refl
-    gives-merge (selectionMerge a) = omega (arith, no-zero)
-    gives-merge (loopMerge a b) = omega (arith, no-zero)
+    gives-merge (selectionMerge a u) = omega (arith, no-zero)
+    gives-merge (loopMerge a b u) = omega (arith, no-zero)
 
     gives-way : (b : BlockLifting) → gives (termInst F first T K (b .term) ∷ []) ≡ 0
     unfolding termInst

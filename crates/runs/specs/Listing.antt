@@ -90,7 +90,7 @@ PhiLike i = isKind Phi i ≡ true
 abbrev MergeLike : Instruction → Type 0
 MergeLike i = (isKind Phi i ≡ false) × (isMerge i ≡ true)
 
-abbrev OpLike : Instruction → Type 0
+abbrev pub OpLike : Instruction → Type 0
 OpLike i = (isKind Phi i ≡ false) × (isMerge i ≡ false)
 
 over-phis : (l r : List Instruction) → All PhiLike l → (phisAll (l ++ r) ≡ l ++ phisAll r) × (runAll (l ++ r) ≡ runAll r)
@@ -123,11 +123,11 @@ body-split P O M t hP hO hM =
     )
 
 -- an opcode of the text: in a block, and no phi or merge
-free-inside : (e : Instruction) → within (e .opcode) table ≡ false → Inside e
-free-inside e f = (free-kind (e .opcode) Label f, free-kind (e .opcode) FunctionEnd f)
-
-free-op : (e : Instruction) → within (e .opcode) table ≡ false → OpLike e
-free-op e f = (free-kind (e .opcode) Phi f, rw (free-kind (e .opcode) LoopMerge f) (free-kind (e .opcode) SelectionMerge f))
+free-fine : (e : Instruction) → within (e .opcode) table ≡ false → Inside e × OpLike e
+free-fine e f = (
+  (free-kind (e .opcode) Label f, free-kind (e .opcode) FunctionEnd f),
+  (free-kind (e .opcode) Phi f, rw (free-kind (e .opcode) LoopMerge f) (free-kind (e .opcode) SelectionMerge f)),
+)
 
 module _ (F : Func) (first : ℕ) (T K : Table) where
   -- what holds of each instruction, kind by kind
@@ -165,14 +165,14 @@ module _ (F : Func) (first : ℕ) (T K : Table) where
   phis-like q = all-phis PhiLike q (λ v d j. refl)
 
   one-op : (e : Instruction) (k : DataInstKind) → e .opcode ≡ opOpcode k → FreeOp k → Inside e × OpLike e
-  one-op e (inst i) q h = let f : within (e .opcode) table ≡ false = ap (λ (n : ℕ). within n table) q ∙ h in (free-inside e f, free-op e f)
+  one-op e (inst i) q h = free-fine e (ap (λ (n : ℕ). within n table) q ∙ h)
   one-op e (call f) q h = rw q ((refl, refl), (refl, refl))
   one-op e (ext s n) q h = rw q ((refl, refl), (refl, refl))
 
   abbrev pub FreeOps : List ℕ → Type 0
   FreeOps is = All (λ (i : ℕ). FreeOp (opOf F i .kind)) is
 
-  ops-fine : (is : List ℕ) → FreeOps is → All (λ (e : Instruction). Inside e × OpLike e) (map (opInst F first T K) is)
+  pub ops-fine : (is : List ℕ) → FreeOps is → All (λ (e : Instruction). Inside e × OpLike e) (map (opInst F first T K) is)
   unfolding opInst
   ops-fine [] h = tt
   ops-fine (i ∷ is) h = (one-op (opInst F first T K i) (opOf F i .kind) refl (h .0), ops-fine is (h .1))
@@ -180,21 +180,21 @@ module _ (F : Func) (first : ℕ) (T K : Table) where
   merge-fine : (m : Merge) → All (λ (e : Instruction). Inside e × MergeLike e) (mergeInsts F first T K m)
   unfolding mergeInsts
   merge-fine noMerge = tt
-  merge-fine (selectionMerge a) = (((refl, refl), (refl, refl)), tt)
-  merge-fine (loopMerge a b) = (((refl, refl), (refl, refl)), tt)
+  merge-fine (selectionMerge a u) = (((refl, refl), (refl, refl)), tt)
+  merge-fine (loopMerge a b u) = (((refl, refl), (refl, refl)), tt)
 
-  way-inside : (e : Instruction) (k : ControlInstKind) (vs : List Value) → e .opcode ≡ termOpcode k vs → FreeKind k → Inside e
-  way-inside e unreachable vs q h = rw q (refl, refl)
-  way-inside e return [] q h = rw q (refl, refl)
-  way-inside e return (v ∷ vs) q h = rw q (refl, refl)
-  way-inside e branch vs q h = rw q (refl, refl)
-  way-inside e (selectBranch boolCond) vs q h = rw q (refl, refl)
-  way-inside e (selectBranch (spvInst i)) vs q h = free-inside e (ap (λ (n : ℕ). within n table) q ∙ h)
-  way-inside e (exitInvocation i) vs q h = free-inside e (ap (λ (n : ℕ). within n table) q ∙ h)
+  one-way : (e : Instruction) (k : ControlInstKind) (vs : List Value) → e .opcode ≡ termOpcode k vs → FreeKind k → Inside e × OpLike e
+  one-way e unreachable vs q h = rw q ((refl, refl), (refl, refl))
+  one-way e return [] q h = rw q ((refl, refl), (refl, refl))
+  one-way e return (v ∷ vs) q h = rw q ((refl, refl), (refl, refl))
+  one-way e branch vs q h = rw q ((refl, refl), (refl, refl))
+  one-way e (selectBranch boolCond) vs q h = rw q ((refl, refl), (refl, refl))
+  one-way e (selectBranch (spvInst i)) vs q h = free-fine e (ap (λ (n : ℕ). within n table) q ∙ h)
+  one-way e (exitInvocation i) vs q h = free-fine e (ap (λ (n : ℕ). within n table) q ∙ h)
 
-  term-inside : (t : Terminator) → FreeKind (t .kind) → Inside (termInst F first T K t)
+  pub term-fine : (t : Terminator) → FreeKind (t .kind) → Inside (termInst F first T K t) × OpLike (termInst F first T K t)
   unfolding termInst
-  term-inside t h = way-inside (termInst F first T K t) (t .kind) (t .ins) refl h
+  term-fine t h = one-way (termInst F first T K t) (t .kind) (t .ins) refl h
 
   -- 4, of one block
   abbrev pub Free : BlockLifting → Type 0
@@ -212,7 +212,7 @@ module _ (F : Func) (first : ℕ) (T K : Table) where
   body-inside : (q : CfgPoint) (b : BlockLifting) → Free b → All Inside (bodyInsts F first T K q b)
   body-inside q b h =
       all-body Inside q b (phis-inside q (b .keys) (b .decls) 0) (all-left Inside OpLike (ops b) (ops-fine (b .ops) (h .0)))
-      (all-left Inside MergeLike (merges b) (merge-fine (b .term .merge))) (term-inside (b .term) (h .1))
+      (all-left Inside MergeLike (merges b) (merge-fine (b .term .merge))) (term-fine (b .term) (h .1) .0)
 
   body-parts : (q : CfgPoint) (b : BlockLifting) → Free b
       → (phisOf (bodyInsts F first T K q b) ≡ phis q b) × (runOf (bodyInsts F first T K q b) ≡ ops b ++ (termInst F first T K (b .term) ∷ []))

@@ -18,10 +18,10 @@ module _ (F : Func) where
   -- the regions that a run can come to, and where they stand
   pub data Visited : ℕ → Place → Type 0 where
     at-body : Visited 0 top
-    in-case : {r n c : ℕ} {p : Place} {ns : List ℕ} {kd : SelectionKind} {v : Value} {cs : List ℕ} {ds : List Decl}
-        → Visited r p → Suffix (regionOf F r .nodes) (n ∷ ns) → nodeOf F n ≡ select kd v cs ds → In c cs → Visited c (inNode n)
-    in-loop : {r n b : ℕ} {p : Place} {ns : List ℕ} {c : Value} {is : List Value}
-        → Visited r p → Suffix (regionOf F r .nodes) (n ∷ ns) → nodeOf F n ≡ loop b c is → Visited b (inNode n)
+    in-case : {r n c : ℕ} {p : Place} {ns : List ℕ} {kd : SelectionKind} {v : Value} {cs : List ℕ} {ds : List Decl} {u : ℕ}
+        → Visited r p → Suffix (regionOf F r .nodes) (n ∷ ns) → nodeOf F n ≡ select kd v cs ds u → In c cs → Visited c (inNode n)
+    in-loop : {r n b : ℕ} {p : Place} {ns : List ℕ} {c : Value} {is : List Value} {u : ℕ}
+        → Visited r p → Suffix (regionOf F r .nodes) (n ∷ ns) → nodeOf F n ≡ loop b c is u → Visited b (inNode n)
     by-ctrl : {r s : ℕ} {c : ControlInst} → Visited r top → ctrlOf F r ≡ some c → In s (c .to) → Visited s top
 
   -- a table holds the right block at each point that a run can come to

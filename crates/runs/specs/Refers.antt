@@ -3,20 +3,21 @@ use mathlib.Core.Path.{_≡_, refl}
 use mathlib.Core.Bool.{true, _&&_}
 use mathlib.Core.List.{List, _++_, map}
 use mathlib.Core.Option.{some}
-use Prim.Native.Nat.{ℕ, _<_}
+use Prim.Native.Nat.{ℕ, _<_, _≤_}
 use native.Mathlib.Decide.{ℕ-discrete}
+use native.Mathlib.Omega.{arith}
 use lib.Dec.{leb, ltb}
 use lib.ListN.{length}
-use borrow.Author.Tests.{ltb-true, not-true}
+use borrow.Author.Tests.{leb-true, ltb-true, not-true}
 use Rattle.opcodes.specs.Table.{table}
 use Rattle.lifting.specs.Lists.{gather, within, keys}
-use Rattle.lifting.specs.Ast.{Value, Inst, Op, Region, ControlInst, Const, Func}
-use Rattle.lifting.specs.Parts.{regionOf, nodeOf, opOf, ctrlOf, childrenOf, nodeValues, ctrlValues, values, nodeInsts, opInsts, ctrlInsts, insts, nodeList, opList, childList, ctrlRegions, requiredIds}
-use Rattle.lifting.specs.Limits.{maxOpcode}
-use Rattle.lifting.specs.References.{named, instFits, referencesHold}
+use Rattle.lifting.specs.Ast.{Value, Inst, Op, Region, ControlInst, Node, Const, Func}
+use Rattle.lifting.specs.Parts.{regionOf, nodeOf, opOf, ctrlOf, childrenOf, mergeControl, nodeValues, ctrlValues, values, nodeInsts, opInsts, ctrlInsts, insts, nodeList, opList, childList, ctrlRegions, requiredIds}
+use Rattle.lifting.specs.Limits.{maxOpcode, maxMergeControl}
+use Rattle.lifting.specs.References.{named, instFits, controlHolds, referencesHold}
 use Rattle.runs.specs.Members.{All, NoDup}
 use Rattle.runs.specs.Accepted.{FreeInst}
-use Rattle.runs.specs.Tests.{both, every-all, all-split, all-line, all-entry, distinct-once}
+use Rattle.runs.specs.Tests.{both, every-all, all-at, all-split, all-line, all-entry, distinct-once}
 
 -- a value that names something
 abbrev pub Named : Func → Value → Type 0
@@ -33,6 +34,7 @@ pub record Refers (F : Func) : Type 0 where
   pub targets-below : (r : ℕ) {c : ControlInst} → ctrlOf F r ≡ some c → All (λ s. s < length (F .regions)) (c .to)
   pub ids-above : All (λ x. 0 < x) (requiredIds F)
   pub consts-once : NoDup (map (λ (c : Const). c .id) (F .consts))
+  pub node-control : (n : ℕ) → mergeControl (nodeOf F n) ≤ maxMergeControl
   pub node-free : (n : ℕ) → All FreeInst (nodeInsts (nodeOf F n))
   pub op-free : (i : ℕ) → All FreeInst (opInsts (opOf F i .kind))
   pub ctrl-free : (r : ℕ) {c : ControlInst} → ctrlOf F r ≡ some c → All FreeInst (ctrlInsts (c .kind))
@@ -40,12 +42,13 @@ pub record Refers (F : Func) : Type 0 where
 inst-free : (i : Inst) → instFits i ≡ true → FreeInst i
 inst-free i e = let short = leb (i .opcode) maxOpcode in not-true (within (i .opcode) table) (both short _ (both (short && _) _ e .0) .1)
 
--- The tests of refusal 4 in their order: values, nodes, ops, regions, ids, constants, their opcodes, INSTs.
+-- The tests of refusal 4 in their order: values, nodes, ops, regions, ids, constants, their opcodes, control numbers of merges, INSTs.
 pub refers : (F : Func) → referencesHold F ≡ true → Refers F
 unfolding referencesHold
 refers F e =
     let insts-fit = both _ _ e in
-    let opcodes-fit = both _ _ (insts-fit .0) in
+    let controls-hold = both _ _ (insts-fit .0) in
+    let opcodes-fit = both _ _ (controls-hold .0) in
     let consts-differ = both _ _ (opcodes-fit .0) in
     let ids-given = both _ _ (consts-differ .0) in
     let regions-named = both _ _ (ids-given .0) in
@@ -71,6 +74,7 @@ refers F e =
       targets-below = λ r {c} f. all-split _ (c .to) (keys (c .vals)) (all-entry ℕ-discrete _ _ (F .ctrls) (regions-below .1) r f .1) .0;
       ids-above = every-all (ltb 0) _ (ltb-true 0) (requiredIds F) (ids-given .1);
       consts-once = distinct-once (map (λ (c : Const). c .id) (F .consts)) (consts-differ .1);
+      node-control = all-at (λ (d : Node). mergeControl d ≤ maxMergeControl) (F .nodes) (every-all controlHolds _ (λ d t. leb-true (mergeControl d) maxMergeControl t) (F .nodes) (controls-hold .1)) _ (omega arith);
       node-free = all-line FreeInst nodeInsts (F .nodes) (of-nodes .0) _ refl;
       op-free = all-line FreeInst op-insts (F .ops) (of-ops .0) _ refl;
       ctrl-free = all-entry ℕ-discrete FreeInst (λ c. ctrlInsts (c .1 .kind)) (F .ctrls) (of-ops .1);

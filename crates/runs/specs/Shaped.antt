@@ -85,7 +85,7 @@ module _ (F : Func) (ok : Shaped F) where
   laid = subst (λ (T : Table). Laid F (blockAt T)) walk-is (walk-laid F depth tree (roots F) in-order)
 
   pub tidy : Tidy (walkOf F)
-  tidy = subst Tidy walk-is (walk-tidy F depth tree (roots F) in-order (λ n b c is e. ok .fitting .loop-ins n e))
+  tidy = subst Tidy walk-is (walk-tidy F depth tree (roots F) in-order (λ n b c is u e. ok .fitting .loop-ins n e))
 
   walked : All (λ (x : CfgPoint × BlockLifting). TermLeads (walkOf F) (x .1 .term) × (EndedCase F (x .0) ⊎ TermOk (walkOf F) (x .1 .term))) (walkOf F)
   walked = subst (λ (T : Table). All (λ (x : CfgPoint × BlockLifting). TermLeads T (x .1 .term) × (EndedCase F (x .0) ⊎ TermOk T (x .1 .term))) T) walk-is

@@ -26,9 +26,9 @@ use Rattle.runs.specs.Places.{Laid, Suffix, Visited, at-body, by-ctrl, i
 -- the facts of a text that meets no refusal which this part needs
 pub record Counted (F : Func) : Type 0 where
   -- 6: `bool` without 2 cases; another select without cases
-  pub cases-fit : (n : ℕ) {kd : SelectionKind} {v : Value} {cs : List ℕ} {ds : List Decl} → nodeOf F n ≡ select kd v cs ds → Enough kd (length cs)
+  pub cases-fit : (n : ℕ) {kd : SelectionKind} {v : Value} {cs : List ℕ} {ds : List Decl} {u : ℕ} → nodeOf F n ≡ select kd v cs ds u → Enough kd (length cs)
   -- 6: a loop's inits, its body's outputs
-  pub loop-fit : (n : ℕ) {b : ℕ} {c : Value} {is : List Value} → nodeOf F n ≡ loop b c is → regionOf F b .outs ≡ [] → is ≡ []
+  pub loop-fit : (n : ℕ) {b : ℕ} {c : Value} {is : List Value} {u : ℕ} → nodeOf F n ≡ loop b c is u → regionOf F b .outs ≡ [] → is ≡ []
   -- 7: counts of targets; a target that is region 0
   pub ctrl-fit : (r : ℕ) {c : ControlInst} → ctrlOf F r ≡ some c → WayFit (c .kind) (length (c .to))
   pub ctrl-off : (r : ℕ) {s : ℕ} {c : ControlInst} → ctrlOf F r ≡ some c → In s (c .to) → (t : ℕ) × (s ≡ suc t)
@@ -131,11 +131,11 @@ module _ (F : Func) {Val : Type 0} (W : World Val) (B : CfgPoint → BlockLiftin
   -- what stands on the stack below the end of region r
   pub data Tail : ℕ → Place → List Task → Type 0 where
     tail-top : {r : ℕ} → Tail r top (leave r ∷ [])
-    tail-case : {r n c : ℕ} {p : Place} {ns : List ℕ} {kd : SelectionKind} {v : Value} {cs : List ℕ} {ds : List Decl} {K : List Task}
-        → Visited F r p → Suffix (regionOf F r .nodes) (n ∷ ns) → nodeOf F n ≡ select kd v cs ds → Tail r p K
+    tail-case : {r n c : ℕ} {p : Place} {ns : List ℕ} {kd : SelectionKind} {v : Value} {cs : List ℕ} {ds : List Decl} {u : ℕ} {K : List Task}
+        → Visited F r p → Suffix (regionOf F r .nodes) (n ∷ ns) → nodeOf F n ≡ select kd v cs ds u → Tail r p K
         → Tail c (inNode n) (close (outKeys n ds) c ∷ (map node ns ++ K))
-    tail-loop : {r n b : ℕ} {p : Place} {ns : List ℕ} {c : Value} {is : List Value} {K : List Task}
-        → Visited F r p → Suffix (regionOf F r .nodes) (n ∷ ns) → nodeOf F n ≡ loop b c is → Tail r p K
+    tail-loop : {r n b : ℕ} {p : Place} {ns : List ℕ} {c : Value} {is : List Value} {u : ℕ} {K : List Task}
+        → Visited F r p → Suffix (regionOf F r .nodes) (n ∷ ns) → nodeOf F n ≡ loop b c is u → Tail r p K
         → Tail b (inNode n) (again b c ∷ (map node ns ++ K))
 
   -- what is to be done once the ops of a point are done
@@ -145,8 +145,8 @@ module _ (F : Func) {Val : Type 0} (W : World Val) (B : CfgPoint → BlockLiftin
         → Visited F r p → Suffix (regionOf F r .nodes) (n ∷ ns) → nodeOf F n ≡ block is → Tail r p K → After (nodeEntry n) (map node ns ++ K)
     after-exit : {r n : ℕ} {p : Place} {ns : List ℕ} {K : List Task}
         → Visited F r p → Suffix (regionOf F r .nodes) (n ∷ ns) → Tail r p K → After (nodeExit n) (map node ns ++ K)
-    after-loop : {r n b : ℕ} {p : Place} {ns : List ℕ} {c : Value} {is : List Value} {K : List Task}
-        → Visited F r p → Suffix (regionOf F r .nodes) (n ∷ ns) → nodeOf F n ≡ loop b c is → Tail r p K
+    after-loop : {r n b : ℕ} {p : Place} {ns : List ℕ} {c : Value} {is : List Value} {u : ℕ} {K : List Task}
+        → Visited F r p → Suffix (regionOf F r .nodes) (n ∷ ns) → nodeOf F n ≡ loop b c is u → Tail r p K
         → After (nodeEntry n) (nodesThen F W b (again b c ∷ (map node ns ++ K)))
 
   pub data Linked : RegionState Val → PointState Val → Type 0 where
@@ -197,14 +197,14 @@ module _ (F : Func) {Val : Type 0} (W : World Val) (B : CfgPoint → BlockLiftin
         ∙ ap (λ (x : BlockLifting). x .defaults) e ∙ d
 
     -- at the end of a case
-    leave-case : {r n c : ℕ} {p : Place} {ns : List ℕ} {kd : SelectionKind} {v : Value} {cs : List ℕ} {ds : List Decl} {K : List Task} (m : Mem Val Value)
-        → Visited F c (inNode n) → Visited F r p → Suffix (regionOf F r .nodes) (n ∷ ns) → nodeOf F n ≡ select kd v cs ds → Tail r p K → Consts F W m
+    leave-case : {r n c : ℕ} {p : Place} {ns : List ℕ} {kd : SelectionKind} {v : Value} {cs : List ℕ} {ds : List Decl} {u : ℕ} {K : List Task} (m : Mem Val Value)
+        → Visited F c (inNode n) → Visited F r p → Suffix (regionOf F r .nodes) (n ∷ ns) → nodeOf F n ≡ select kd v cs ds u → Tail r p K → Consts F W m
         → Big (to-do (close (outKeys n ds) c ∷ (map node ns ++ K)) m) (at-end (regionExit c) m)
-    leave-case {r} {n} {c} {ns} {kd} {v} {cs} {ds} {K} m vc vr sf e tl cm =
-        let ex : B (regionExit c) ≡ plain (childTerm F (select kd v cs ds) n (regionOf F c .outs)) = laid .exit-at vc ∙ ap (λ (d : Node). plain (childTerm F d n (regionOf F c .outs))) e in
-        let ot : B (nodeExit n) ≡ outBlock F (select kd v cs ds) n (nextPoint r ns) = laid .out-at vr sf ∙ ap (λ (d : Node). outBlock F d n (nextPoint r ns)) e in
-        let t = childTerm F (select kd v cs ds) n (regionOf F c .outs) in
-        let right : pointStep F W B (at-end (regionExit c) m) ≡ landing (nodeExit n) (outBlock F (select kd v cs ds) n (nextPoint r ns)) (regionOf F c .outs) m
+    leave-case {r} {n} {c} {ns} {kd} {v} {cs} {ds} {u} {K} m vc vr sf e tl cm =
+        let ex : B (regionExit c) ≡ plain (childTerm F (select kd v cs ds u) n (regionOf F c .outs)) = laid .exit-at vc ∙ ap (λ (d : Node). plain (childTerm F d n (regionOf F c .outs))) e in
+        let ot : B (nodeExit n) ≡ outBlock F (select kd v cs ds u) n (nextPoint r ns) = laid .out-at vr sf ∙ ap (λ (d : Node). outBlock F d n (nextPoint r ns)) e in
+        let t = childTerm F (select kd v cs ds u) n (regionOf F c .outs) in
+        let right : pointStep F W B (at-end (regionExit c) m) ≡ landing (nodeExit n) (outBlock F (select kd v cs ds u) n (nextPoint r ns)) (regionOf F c .outs) m
         = out-of m ex ∙ jump-is t (nodeExit n) _ _ m (edge-is t (nodeExit n) _ (regionOf F c .outs) refl ot (λ x. refl)) ot in
         at-once _ _ _ _ _ _ _ (subst (λ (y : Out (PointState Val) (End Val)). MeetOut Linked (regionStep F W (to-do (close (outKeys n ds) c ∷ (map node ns ++ K)) m)) y) (sym right)
         (meet-reading Linked (reads (m .env) (regionOf F c .outs)) _ _
@@ -221,18 +221,18 @@ module _ (F : Func) {Val : Type 0} (W : World Val) (B : CfgPoint → BlockLiftin
     always-reads (dataInstOutput i) m cm a = absurd (let z : _≡_ {A = ℕ} 0 1 = cc in omega arith)
 
     -- at the end of a loop's body
-    leave-loop : {r n b : ℕ} {p : Place} {ns : List ℕ} {c : Value} {is : List Value} {K : List Task} (m : Mem Val Value)
-        → Visited F b (inNode n) → Visited F r p → Suffix (regionOf F r .nodes) (n ∷ ns) → nodeOf F n ≡ loop b c is → Tail r p K → Consts F W m
+    leave-loop : {r n b : ℕ} {p : Place} {ns : List ℕ} {c : Value} {is : List Value} {u : ℕ} {K : List Task} (m : Mem Val Value)
+        → Visited F b (inNode n) → Visited F r p → Suffix (regionOf F r .nodes) (n ∷ ns) → nodeOf F n ≡ loop b c is u → Tail r p K → Consts F W m
         → (a : Bool) → always F c ≡ a
         → Big (to-do (again b c ∷ (map node ns ++ K)) m) (at-end (regionExit b) m)
-    leave-loop {r} {n} {b} {ns} {c} {is} {K} m vb vr sf e tl cm true a =
+    leave-loop {r} {n} {b} {ns} {c} {is} {u} {K} m vb vr sf e tl cm true a =
         let outs = regionOf F b .outs in
         let k = again b c ∷ (map node ns ++ K) in
         let ex : B (regionExit b) ≡ plain (loopTerm F true n c outs)
         = laid .exit-at vb ∙ ap (λ (d : Node). plain (childTerm F d n outs)) e ∙ ap (λ (x : Bool). plain (loopTerm F x n c outs)) a in
-        let it : B (nodeEntry n) ≡ inBlock F (loop b c is) n = laid .in-at vr sf ∙ ap (λ (d : Node). inBlock F d n) e in
+        let it : B (nodeEntry n) ≡ inBlock F (loop b c is u) n = laid .in-at vr sf ∙ ap (λ (d : Node). inBlock F d n) e in
         let t = loopTerm F true n c outs in
-        let right : pointStep F W B (at-end (regionExit b) m) ≡ landing (nodeEntry n) (inBlock F (loop b c is) n) outs m
+        let right : pointStep F W B (at-end (regionExit b) m) ≡ landing (nodeEntry n) (inBlock F (loop b c is u) n) outs m
         = out-of m ex ∙ jump-is t (nodeEntry n) _ _ m (edge-is t (nodeEntry n) _ outs refl it (λ x. ok .loop-fit n e x)) it in
         let w = always-reads c m cm a in
         let lap : List Val → Out (RegionState Val) (End Val) = λ ws. go (to-do (nodesThen F W b k) (sets (insKeys F b) ws m)) in
@@ -243,15 +243,15 @@ module _ (F : Func) {Val : Type 0} (W : World Val) (B : CfgPoint → BlockLiftin
         (subst (λ (y : Out (PointState Val) (End Val)). MeetOut Linked (reading (reads (m .env) outs) lap) y) (sym right)
         (meet-reading Linked (reads (m .env) outs) _ _
         (λ vs. out-go (linked [] (nodeEntry n) (nodesThen F W b k) (sets (insKeys F b) vs m) (after-loop vr sf e tl) (consts-rin F W m b (length (regionOf F b .ins)) vs cm))))))
-    leave-loop {r} {n} {b} {ns} {c} {is} {K} m vb vr sf e tl cm false a =
+    leave-loop {r} {n} {b} {ns} {c} {is} {u} {K} m vb vr sf e tl cm false a =
         let outs = regionOf F b .outs in
         let k = again b c ∷ (map node ns ++ K) in
         let ex : B (regionExit b) ≡ plain (loopTerm F false n c outs)
         = laid .exit-at vb ∙ ap (λ (d : Node). plain (childTerm F d n outs)) e ∙ ap (λ (x : Bool). plain (loopTerm F x n c outs)) a in
-        let it : B (nodeEntry n) ≡ inBlock F (loop b c is) n = laid .in-at vr sf ∙ ap (λ (d : Node). inBlock F d n) e in
-        let ot : B (nodeExit n) ≡ outBlock F (loop b c is) n (nextPoint r ns) = laid .out-at vr sf ∙ ap (λ (d : Node). outBlock F d n (nextPoint r ns)) e in
+        let it : B (nodeEntry n) ≡ inBlock F (loop b c is u) n = laid .in-at vr sf ∙ ap (λ (d : Node). inBlock F d n) e in
+        let ot : B (nodeExit n) ≡ outBlock F (loop b c is u) n (nextPoint r ns) = laid .out-at vr sf ∙ ap (λ (d : Node). outBlock F d n (nextPoint r ns)) e in
         let t = loopTerm F false n c outs in
-        let back : jump F W B t (nodeEntry n) m ≡ landing (nodeEntry n) (inBlock F (loop b c is) n) outs m
+        let back : jump F W B t (nodeEntry n) m ≡ landing (nodeEntry n) (inBlock F (loop b c is u) n) outs m
         = jump-is t (nodeEntry n) _ _ m (edge-is t (nodeEntry n) _ outs refl it (λ x. ok .loop-fit n e x)) it in
         let off : jump F W B t (nodeExit n) m ≡ go (at-end (nodeExit n) m)
         = jump-is t (nodeExit n) _ _ m (edge-out t n _ outs refl ot refl) ot in
@@ -326,11 +326,11 @@ module _ (F : Func) {Val : Type 0} (W : World Val) (B : CfgPoint → BlockLiftin
         at-once _ _ _ _ _ _ _ (subst (λ (x : Out (RegionState Val) (End Val)). MeetOut Linked x (pointStep F W B (at-end q m))) (sym left)
         (subst (λ (y : Out (PointState Val) (End Val)). MeetOut Linked (go (to-do (map op is ++ (map node ns ++ K)) m)) y) (sym right)
         (out-go (linked is (nodeEntry n) (map node ns ++ K) m (after-block vr sf e tl) cm))))
-    into-node {n} {ns} {K} {q} m (select kd v cs ds) e bq bt vr sf tl cm =
-        let it : B (nodeEntry n) ≡ inBlock F (select kd v cs ds) n = laid .in-at vr sf ∙ ap (λ (d : Node). inBlock F d n) e in
+    into-node {n} {ns} {K} {q} m (select kd v cs ds u) e bq bt vr sf tl cm =
+        let it : B (nodeEntry n) ≡ inBlock F (select kd v cs ds u) n = laid .in-at vr sf ∙ ap (λ (d : Node). inBlock F d n) e in
         let hop : pointStep F W B (at-end q m) ≡ go (at-end (nodeEntry n) m) = straight-on m bq bt it in
-        let t = inBlock F (select kd v cs ds) n .term in
-        let left : regionStep F W (to-do (node n ∷ (map node ns ++ K)) m) ≡ doNode F W (select kd v cs ds) n (map node ns ++ K) m
+        let t = inBlock F (select kd v cs ds u) n .term in
+        let left : regionStep F W (to-do (node n ∷ (map node ns ++ K)) m) ≡ doNode F W (select kd v cs ds u) n (map node ns ++ K) m
         = ap (λ (d : Node). doNode F W d n (map node ns ++ K) m) e in
         let each : (vs : List Val) (c : ℕ) (g : CfgPoint) → g ≡ regionEntry c → In c cs
         → MeetOut Linked (go (to-do (nodesThen F W c (close (outKeys n ds) c ∷ (map node ns ++ K))) m)) (jump F W B t g m)
@@ -343,18 +343,18 @@ module _ (F : Func) {Val : Type 0} (W : World Val) (B : CfgPoint → BlockLiftin
         (out-go (linked [] (regionEntry c) _ m (after-entry vc (tail-case vr sf e tl)) cm)) in
         right-first _ _ _ _ _ hop refl
         (at-once _ _ _ _ _ _ _ (subst (λ (x : Out (RegionState Val) (End Val)). MeetOut Linked x (pointStep F W B (at-end (nodeEntry n) m))) (sym left)
-        (subst (λ (y : Out (PointState Val) (End Val)). MeetOut Linked (doNode F W (select kd v cs ds) n (map node ns ++ K) m) y) (sym (out-of m it))
+        (subst (λ (y : Out (PointState Val) (End Val)). MeetOut Linked (doNode F W (select kd v cs ds u) n (map node ns ++ K) m) y) (sym (out-of m it))
         (meet-reading Linked (reads (m .env) (v ∷ [])) _ _ (λ vs.
         each vs (getD cs (pick W kd vs (length cs)) 0) _
         (ap (λ (x : ℕ). getD (map regionEntry cs) (pick W kd vs x) (regionEntry 0)) (length-map cs regionEntry) ∙ List·getD-map regionEntry cs (pick W kd vs (length cs)) 0)
         (in-getD cs _ 0 (pick-lt W kd vs (length cs) (ok .cases-fit n e))))))))
-    into-node {n} {ns} {K} {q} m (loop b c is) e bq bt vr sf tl cm =
-        let it : B (nodeEntry n) ≡ inBlock F (loop b c is) n = laid .in-at vr sf ∙ ap (λ (d : Node). inBlock F d n) e in
-        let right : pointStep F W B (at-end q m) ≡ landing (nodeEntry n) (inBlock F (loop b c is) n) is m = straight-on m bq bt it in
-        let left : regionStep F W (to-do (node n ∷ (map node ns ++ K)) m) ≡ doNode F W (loop b c is) n (map node ns ++ K) m
+    into-node {n} {ns} {K} {q} m (loop b c is u) e bq bt vr sf tl cm =
+        let it : B (nodeEntry n) ≡ inBlock F (loop b c is u) n = laid .in-at vr sf ∙ ap (λ (d : Node). inBlock F d n) e in
+        let right : pointStep F W B (at-end q m) ≡ landing (nodeEntry n) (inBlock F (loop b c is u) n) is m = straight-on m bq bt it in
+        let left : regionStep F W (to-do (node n ∷ (map node ns ++ K)) m) ≡ doNode F W (loop b c is u) n (map node ns ++ K) m
         = ap (λ (d : Node). doNode F W d n (map node ns ++ K) m) e in
         at-once _ _ _ _ _ _ _ (subst (λ (x : Out (RegionState Val) (End Val)). MeetOut Linked x (pointStep F W B (at-end q m))) (sym left)
-        (subst (λ (y : Out (PointState Val) (End Val)). MeetOut Linked (doNode F W (loop b c is) n (map node ns ++ K) m) y) (sym right)
+        (subst (λ (y : Out (PointState Val) (End Val)). MeetOut Linked (doNode F W (loop b c is u) n (map node ns ++ K) m) y) (sym right)
         (meet-reading Linked (reads (m .env) is) _ _ (λ vs.
         out-go (linked [] (nodeEntry n) _ (sets (insKeys F b) vs m) (after-loop vr sf e tl) (consts-rin F W m b (length (regionOf F b .ins)) vs cm))))))
     into-node {n} {ns} {K} {q} m (exit i ws) e bq bt vr sf tl cm =
@@ -380,11 +380,11 @@ module _ (F : Func) {Val : Type 0} (W : World Val) (B : CfgPoint → BlockLiftin
         let ot : B (nodeExit n) ≡ outBlock F (block is) n (nextPoint r ns) = laid .out-at vr sf ∙ ap (λ (d : Node). outBlock F d n (nextPoint r ns)) e in
         right-first _ _ _ _ _ (straight-on m it refl ot) refl (flow m ns ot refl vr (next sf) tl cm)
     after-ops m (after-exit {ns} vr sf tl) cm = flow m ns (laid .out-at vr sf) refl vr (next sf) tl cm
-    after-ops m (after-loop {r} {n} {b} {ns} {c} {is} {K} vr sf e tl) cm =
-        let it : B (nodeEntry n) ≡ inBlock F (loop b c is) n = laid .in-at vr sf ∙ ap (λ (d : Node). inBlock F d n) e in
+    after-ops m (after-loop {r} {n} {b} {ns} {c} {is} {u} {K} vr sf e tl) cm =
+        let it : B (nodeEntry n) ≡ inBlock F (loop b c is u) n = laid .in-at vr sf ∙ ap (λ (d : Node). inBlock F d n) e in
         let vb = in-loop vr sf e in
         let en : B (regionEntry b) ≡ entryBlock F b (inNode n) = laid .entry-at vb in
-        let t = inBlock F (loop b c is) n .term in
+        let t = inBlock F (loop b c is u) n .term in
         let hop : pointStep F W B (at-end (nodeEntry n) m) ≡ go (at-end (regionEntry b) m)
         = out-of m it ∙ jump-is t (regionEntry b) _ [] m (ap (λ (x : BlockLifting). x .defaults) en) en in
         right-first _ _ _ _ _ hop refl (flow m (regionOf F b .nodes) en refl vb whole (tail-loop vr sf e tl) cm)

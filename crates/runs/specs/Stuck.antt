@@ -57,9 +57,9 @@ module _ (F : Func) {Val : Type 0} (W : World Val) where
 
   well-node : (d : Node) (n : ℕ) (k : List Task) (m : Mem Val Value) → Rooted k → Well Fine (doNode F W d n k m)
   well-node (block is) n k m h = above-all op is h
-  well-node (select s v cs ds) n k m h = well-reading Fine (reads (m .env) (v ∷ [])) _
+  well-node (select s v cs ds u) n k m h = well-reading Fine (reads (m .env) (v ∷ [])) _
       (λ vs. let c = getD cs (pick W s vs (length cs)) 0 in above-all node (regionOf F c .nodes) (above (close (outKeys n ds) c) h))
-  well-node (loop b c is) n k m h = well-reading Fine (reads (m .env) is) _ (λ vs. above-all node (regionOf F b .nodes) (above (again b c) h))
+  well-node (loop b c is u) n k m h = well-reading Fine (reads (m .env) is) _ (λ vs. above-all node (regionOf F b .nodes) (above (again b c) h))
   well-node (exit i vs) n k m h = well-reading Fine (reads (m .env) vs) _ (λ ws. tt)
 
   well-enter : (c : ControlInst) (r : ℕ) (m : Mem Val Value) → Well Fine (enter F W c r m)

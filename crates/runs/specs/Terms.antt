@@ -70,8 +70,8 @@ module _ (F : Func) (depth : ℕ) (tr : Tree F depth) (rs : List ℕ) (ok : Root
 
   in-fills : (n : ℕ) (d : Node) → nodeOf F n ≡ d → length (inBlock F d n .keys) ≡ length (inBlock F d n .defaults)
   in-fills n (block is) e = refl
-  in-fills n (select kd v cs ds) e = refl
-  in-fills n (loop b c is) e = length-tabulate _ 0 (length (regionOf F b .ins)) ∙ sym (fit .loop-ins n e)
+  in-fills n (select kd v cs ds u) e = refl
+  in-fills n (loop b c is u) e = length-tabulate _ 0 (length (regionOf F b .ins)) ∙ sym (fit .loop-ins n e)
   in-fills n (exit i vs) e = refl
 
   next-ok : (r : ℕ) (p : Place) (ns : List ℕ) → Visited F r p → Suffix (regionOf F r .nodes) ns → TermOk T (straight (nextPoint r ns))
@@ -98,17 +98,17 @@ module _ (F : Func) (depth : ℕ) (tr : Tree F depth) (rs : List ℕ) (ok : Root
   child-ok : (r n c : ℕ) (p : Place) (ns : List ℕ) (d : Node) → nodeOf F n ≡ d → In c (childrenOf d) → Visited F r p → Suffix (regionOf F r .nodes) (n ∷ ns) → TermFine (regionExit c) (childTerm F d n (regionOf F c .outs))
   child-ok r n c p ns (block is) e i v sf = absurd (in-nil i)
   child-ok r n c p ns (exit j ws) e i v sf = absurd (in-nil i)
-  child-ok r n c p ns (select kd w cs ds) e i v sf = by-outs (fit .case-outs n c e i)
+  child-ok r n c p ns (select kd w cs ds u) e i v sf = by-outs (fit .case-outs n c e i)
     where
-      fo : find eqPoint (nodeExit n) T ≡ some (outBlock F (select kd w cs ds) n (nextPoint r ns))
+      fo : find eqPoint (nodeExit n) T ≡ some (outBlock F (select kd w cs ds u) n (nextPoint r ns))
       fo = out-found r n p ns v sf ∙ ap (λ (d : Node). some (outBlock F d n (nextPoint r ns))) e
 
-      by-outs : OutsFit F c (length ds) → TermFine (regionExit c) (childTerm F (select kd w cs ds) n (regionOf F c .outs))
+      by-outs : OutsFit F c (length ds) → TermFine (regionExit c) (childTerm F (select kd w cs ds u) n (regionOf F c .outs))
       by-outs (inl h) = whole-fine (regionExit c) (record {
         free = tt;
         way = refl;
         to = λ q g. elim (in-cases g) [
-          | inl z ↦ one-target (nodeExit n) (outBlock F (select kd w cs ds) n (nextPoint r ns)) (regionOf F c .outs) fo (length-tabulate _ 0 (length ds) ∙ sym h) (λ x. refl) q z
+          | inl z ↦ one-target (nodeExit n) (outBlock F (select kd w cs ds u) n (nextPoint r ns)) (regionOf F c .outs) fo (length-tabulate _ 0 (length ds) ∙ sym h) (λ x. refl) q z
           | inr z ↦ absurd (in-nil z)
         ];
       })
@@ -117,27 +117,27 @@ module _ (F : Func) (depth : ℕ) (tr : Tree F depth) (rs : List ℕ) (ok : Root
           free = tt;
           way = refl;
           to = λ q g. elim (in-cases g) [
-            | inl z ↦ (outBlock F (select kd w cs ds) n (nextPoint r ns), subst (λ (x : CfgPoint). find eqPoint x T ≡ some (outBlock F (select kd w cs ds) n (nextPoint r ns))) (sym z) fo, tt)
+            | inl z ↦ (outBlock F (select kd w cs ds u) n (nextPoint r ns), subst (λ (x : CfgPoint). find eqPoint x T ≡ some (outBlock F (select kd w cs ds u) n (nextPoint r ns))) (sym z) fo, tt)
             | inr z ↦ absurd (in-nil z)
           ];
         },
         inl (record { node = n; stands = in-case v sf e i; in-select = ap isSelect e; child = subst (λ (d : Node). In c (childrenOf d)) (sym e) i; ends = h .1 }),
       )
-  child-ok r n c p ns (loop b k is) e i v sf =
+  child-ok r n c p ns (loop b k is u) e i v sf =
       let cb : c ≡ b = elim (in-cases i) [ inl z ↦ z | inr z ↦ absurd (in-nil z) ] in
       whole-fine (regionExit c) (subst (λ (x : ℕ). TermOk T (loopTerm F (always F k) n k (regionOf F x .outs))) (sym cb) (by-test (always F k)))
     where
       outs : List Value
       outs = regionOf F b .outs
 
-      fi : find eqPoint (nodeEntry n) T ≡ some (inBlock F (loop b k is) n)
+      fi : find eqPoint (nodeEntry n) T ≡ some (inBlock F (loop b k is u) n)
       fi = in-found r n p ns v sf ∙ ap (λ (d : Node). some (inBlock F d n)) e
 
       back : (q : CfgPoint) → q ≡ nodeEntry n → (x : BlockLifting) × (find eqPoint q T ≡ some x) × (length (x .keys) ≡ length (valsOr (find eqPoint q (someVals (nodeEntry n) outs)) (x .defaults)))
-      back q z = one-target (nodeEntry n) (inBlock F (loop b k is) n) outs fi (length-tabulate _ 0 (length (regionOf F b .ins)) ∙ sym (fit .loop-outs n e))
+      back q z = one-target (nodeEntry n) (inBlock F (loop b k is u) n) outs fi (length-tabulate _ 0 (length (regionOf F b .ins)) ∙ sym (fit .loop-outs n e))
           (λ h. fit .loop-ins n e ∙ sym (fit .loop-outs n e) ∙ ap (λ (l : List Value). length l) h) q z
 
-      fo : find eqPoint (nodeExit n) T ≡ some (outBlock F (loop b k is) n (nextPoint r ns))
+      fo : find eqPoint (nodeExit n) T ≡ some (outBlock F (loop b k is u) n (nextPoint r ns))
       fo = out-found r n p ns v sf ∙ ap (λ (d : Node). some (outBlock F d n (nextPoint r ns))) e
 
       exit-entry : (q : CfgPoint) → q ≡ nodeExit n → ¬ (q ≡ nodeEntry n)
@@ -149,8 +149,8 @@ module _ (F : Func) (depth : ℕ) (tr : Tree F depth) (rs : List ℕ) (ok : Root
 
       off : (q : CfgPoint) → q ≡ nodeExit n → (x : BlockLifting) × (find eqPoint q T ≡ some x) × (length (x .keys) ≡ length (valsOr (find eqPoint q (someVals (nodeEntry n) outs)) (x .defaults)))
       off q z = (
-        outBlock F (loop b k is) n (nextPoint r ns),
-        subst (λ (y : CfgPoint). find eqPoint y T ≡ some (outBlock F (loop b k is) n (nextPoint r ns))) (sym z) fo,
+        outBlock F (loop b k is u) n (nextPoint r ns),
+        subst (λ (y : CfgPoint). find eqPoint y T ≡ some (outBlock F (loop b k is u) n (nextPoint r ns))) (sym z) fo,
         sym (ap (λ (l : List Value). length l) (no-vals q z outs)),
       )
 
@@ -185,13 +185,13 @@ module _ (F : Func) (depth : ℕ) (tr : Tree F depth) (rs : List ℕ) (ok : Root
   -- the way out of a node's entry
   in-ok : (r n : ℕ) (p : Place) (ns : List ℕ) (d : Node) → nodeOf F n ≡ d → Visited F r p → Suffix (regionOf F r .nodes) (n ∷ ns) → TermOk T (inBlock F d n .term)
   in-ok r n p ns (block is) e v sf = straight-ok T (nodeExit n) (outBlock F (block is) n (nextPoint r ns)) (out-found r n p ns v sf ∙ ap (λ (d : Node). some (outBlock F d n (nextPoint r ns))) e) refl
-  in-ok r n p ns (select kd w cs ds) e v sf = record {
+  in-ok r n p ns (select kd w cs ds u) e v sf = record {
     free = fit .select-free n e;
     way = subst (WayFit (selectBranch kd)) (sym (length-map cs regionEntry)) (fit .cases-count n e);
     to = λ q i. let w = map-in regionEntry cs i in
         (entryBlock F (w .0) (inNode n), subst (λ (x : CfgPoint). find eqPoint x T ≡ some (entryBlock F (w .0) (inNode n))) (sym (w .2)) (entry-found (w .0) (inNode n) (in-case v sf e (w .1))), refl);
   }
-  in-ok r n p ns (loop b c is) e v sf = record {
+  in-ok r n p ns (loop b c is u) e v sf = record {
     free = tt;
     way = refl;
     to = λ q i. elim (in-cases i) [

@@ -119,7 +119,7 @@ module _ (F : Func) where
     }
 
     -- no phis, no defaults
-    module _ (loops : (n b : ℕ) (c : Value) (is : List Value) → nodeOf F n ≡ loop b c is → length is ≡ length (regionOf F b .ins)) where
+    module _ (loops : (n b : ℕ) (c : Value) (is : List Value) (u : ℕ) → nodeOf F n ≡ loop b c is u → length is ≡ length (regionOf F b .ins)) where
       abbrev Plain : CfgPoint × BlockLifting → Type 0
       Plain x = x .1 .keys ≡ [] → x .1 .defaults ≡ []
 
@@ -133,8 +133,8 @@ module _ (F : Func) where
 
       in-plain : (n : ℕ) (d : Node) → nodeOf F n ≡ d → Plain (nodeEntry n, inBlock F d n)
       in-plain n (block is) e h = refl
-      in-plain n (select kd v cs ds) e h = refl
-      in-plain n (loop b c is) e h = length-none is (loops n b c is e ∙ keys-none _ 0 (length (regionOf F b .ins)) h)
+      in-plain n (select kd v cs ds u) e h = refl
+      in-plain n (loop b c is u) e h = length-none is (loops n b c is u e ∙ keys-none _ 0 (length (regionOf F b .ins)) h)
       in-plain n (exit i vs) e h = refl
 
       plain-roots : All Plain T

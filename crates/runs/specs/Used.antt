@@ -33,14 +33,14 @@ module _ (F : Func) (ok : Refers F) where
 
   in-named : (d : Node) (n : ℕ) → All (Named F) (nodeValues d) → NamedBlock (inBlock F d n)
   in-named (block is) n h = (tt, tt, tt)
-  in-named (select k v cs ds) n h = (h, tt, tt)
-  in-named (loop b c is) n h = (tt, tt, h .1)
+  in-named (select k v cs ds u) n h = (h, tt, tt)
+  in-named (loop b c is u) n h = (tt, tt, h .1)
   in-named (exit i vs) n h = (h, tt, tt)
 
   child-named : (d : Node) (n : ℕ) (vs : List Value) → All (Named F) (nodeValues d) → All (Named F) vs → NamedBlock (plain (childTerm F d n vs))
   child-named (block is) n vs h k = (tt, tt, tt)
-  child-named (select kd v cs ds) n vs h k = (tt, vals-named (nodeExit n) vs k, tt)
-  child-named (loop b c is) n vs h k = by-case (always F c)
+  child-named (select kd v cs ds u) n vs h k = (tt, vals-named (nodeExit n) vs k, tt)
+  child-named (loop b c is u) n vs h k = by-case (always F c)
     where
       by-case : (t : Bool) → NamedBlock (plain (loopTerm F t n c vs))
       by-case true = (tt, vals-named (nodeEntry n) vs k, tt)

@@ -14,8 +14,8 @@ use Rattle.runs.specs.Places.{Suffix, Visited, in-case, in-loop, next, w
 module _ (F : Func) where
   pub kid-visited : {r n c : ℕ} {p : Place} {ns : List ℕ} (d : Node) → nodeOf F n ≡ d → In c (childrenOf d) → Visited F r p → Suffix (regionOf F r .nodes) (n ∷ ns) → Visited F c (inNode n)
   kid-visited (block is) e i v sf = absurd (in-nil i)
-  kid-visited (select k w cs ds) e i v sf = in-case v sf e i
-  kid-visited {n = n} (loop b k is) e i v sf = subst (λ (x : ℕ). Visited F x (inNode n)) (sym (elim (in-cases i) [ inl z ↦ z | inr z ↦ absurd (in-nil z) ])) (in-loop v sf e)
+  kid-visited (select k w cs ds u) e i v sf = in-case v sf e i
+  kid-visited {n = n} (loop b k is u) e i v sf = subst (λ (x : ℕ). Visited F x (inNode n)) (sym (elim (in-cases i) [ inl z ↦ z | inr z ↦ absurd (in-nil z) ])) (in-loop v sf e)
   kid-visited (exit j ws) e i v sf = absurd (in-nil i)
 
   module _ (P : CfgPoint × BlockLifting → Type 0) (entries : (r : ℕ) (p : Place) → Visited F r p → P (regionEntry r, entryBlock F r p)) (exits : (r : ℕ) (p : Place) → Visited F r p → P (regionExit r, exitBlock F r p))

@@ -65,9 +65,9 @@ readLeaves (denied n) scratch = zerosUnless8 (eqb n 8) scratch
 
 -- ---- of the library
 
--- major, minor and patch as one number: 0.5.0
+-- major, minor and patch as one number: 0.6.0
 abbrev pub version : ℕ
-version = 0 * 65536 + 5 * 256 + 0
+version = 0 * 65536 + 6 * 256 + 0
 
 -- ---- by what the entry tells
 

@@ -72,10 +72,10 @@ pub extern "C" fn sighvona_read(text: &[u8], func: &mut [u32], work: &mut [u32])
     number(x)
 }
 
-// The library's version, 0.5.0: major * 65,536 + minor * 256 + patch.
+// The library's version, 0.6.0: major * 65,536 + minor * 256 + patch.
 #[no_mangle]
 pub extern "C" fn sighvona_version() -> u32
     ensures version { λ r. ⌜ r ≡ version ⌝ }
 {
-    1280
+    1536
 }

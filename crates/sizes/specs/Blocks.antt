@@ -104,8 +104,8 @@ module _ (F : Func) (ok : Shaped F) (first : ℕ) where
   -- what an edge without values gives to phis is known from the point
   in-defaults : (d : Node) (n : ℕ) → inBlock F d n .defaults ≡ initsOf d
   in-defaults (block is) n = refl
-  in-defaults (select k v cs ds) n = refl
-  in-defaults (loop b c is) n = refl
+  in-defaults (select k v cs ds u) n = refl
+  in-defaults (loop b c is u) n = refl
   in-defaults (exit i vs) n = refl
 
   step-defaults : (x : CfgPoint × BlockLifting) (o : Option CfgPoint) → Step F x o → x .1 .defaults ≡ defaultsAt F (x .0)
@@ -224,8 +224,8 @@ module _ (F : Func) (ok : Shaped F) (first : ℕ) where
   merge-weight : (m : Merge) → total instWeight (mergeInsts F first T K m) ≤ mergeWeight m
   unfolding mergeInsts
   merge-weight noMerge = omega arith
-  merge-weight (selectionMerge a) = omega (arith, length-inst (bare (opcodeOf SelectionMerge) (short selectionControl 0) (labelOf F first T K a ∷ [])))
-  merge-weight (loopMerge a b) = omega (arith, length-inst (bare (opcodeOf LoopMerge) (short loopControl 0) (labelOf F first T K a ∷ labelOf F first T K b ∷ [])))
+  merge-weight (selectionMerge a u) = omega (arith, length-inst (bare (opcodeOf SelectionMerge) (short selectionControl u) (labelOf F first T K a ∷ [])))
+  merge-weight (loopMerge a b u) = omega (arith, length-inst (bare (opcodeOf LoopMerge) (short loopControl u) (labelOf F first T K a ∷ labelOf F first T K b ∷ [])))
 
   abbrev Any : Terminator → Type 0
   Any t = Unit {0}

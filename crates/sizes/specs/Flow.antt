@@ -88,12 +88,12 @@ module _ (F : Func) (ok : Shaped F) where
   -- at a node's entry
   in-weight : (d : Node) (n : ℕ) → (opsWeight F (inBlock F d n .ops) + endWeight (inBlock F d n .term)) + 2 * flow F (inBlock F d n .term) ≤ nodeWeight F d
   in-weight (block is) n = omega (arith, straight-flow (nodeExit n))
-  in-weight (select k v cs ds) n = omega (
+  in-weight (select k v cs ds u) n = omega (
     arith,
-    sole (inBlock F (select k v cs ds) n .term) (nodeExit n) [] 0 refl (omega arith) (omega arith) (λ p i m. entry-none cs p i),
+    sole (inBlock F (select k v cs ds u) n .term) (nodeExit n) [] 0 refl (omega arith) (omega arith) (λ p i m. entry-none cs p i),
     length-map cs regionEntry,
   )
-  in-weight (loop b c is) n = omega (arith, sole (inBlock F (loop b c is) n .term) (nodeExit n) [] 0 refl (omega arith) (omega arith) (λ p i m. entry-none (b ∷ []) p i))
+  in-weight (loop b c is u) n = omega (arith, sole (inBlock F (loop b c is u) n .term) (nodeExit n) [] 0 refl (omega arith) (omega arith) (λ p i m. entry-none (b ∷ []) p i))
   in-weight (exit j vs) n = omega (arith, sole (inBlock F (exit j vs) n .term) (nodeExit n) [] 0 refl (omega arith) (omega arith) (λ p i m. absurd (in-nil i)))
 
   -- at a root's exit
@@ -120,14 +120,14 @@ module _ (F : Func) (ok : Shaped F) where
       → endWeight (childTerm F d n (regionOf F r .outs)) + 2 * flow F (childTerm F d n (regionOf F r .outs)) ≤ 3 + 2 * length (regionOf F r .outs)
   child-weight r n (block is) e i = absurd (in-nil i)
   child-weight r n (exit j vs) e i = absurd (in-nil i)
-  child-weight r n (select k v cs ds) e i =
+  child-weight r n (select k v cs ds u) e i =
       let vs : List Value = regionOf F r .outs in
       omega (
         arith,
-        sole (childTerm F (select k v cs ds) n vs) (nodeExit n) vs (length vs) refl (omega arith) (omega arith)
+        sole (childTerm F (select k v cs ds u) n vs) (nodeExit n) vs (length vs) refl (omega arith) (omega arith)
             (λ p h m. elim (in-cases h) [ inl z ↦ absurd (m z) | inr z ↦ absurd (in-nil z) ]),
       )
-  child-weight r n (loop b c is) e i = by-test (always F c)
+  child-weight r n (loop b c is u) e i = by-test (always F c)
     where
       outs : List Value
       outs = regionOf F r .outs

@@ -36,8 +36,8 @@ module _ (F : Func) where
 
   in-labels : (d : Node) (n : ℕ) → length (labels (inBlock F d n .term)) ≤ 2 + length (childrenOf d)
   in-labels (block is) n = omega arith
-  in-labels (select k v cs ds) n = omega (arith, length-map cs regionEntry)
-  in-labels (loop b c is) n = omega arith
+  in-labels (select k v cs ds u) n = omega (arith, length-map cs regionEntry)
+  in-labels (loop b c is u) n = omega arith
   in-labels (exit i vs) n = omega arith
 
   root-labels : (o : Option ControlInst) (r : ℕ) → length (labels (rootTerm F o r)) ≤ weighed led o
@@ -50,8 +50,8 @@ module _ (F : Func) where
 
   child-labels : (d : Node) (n : ℕ) (vs : List Value) → length (labels (childTerm F d n vs)) ≤ 2
   child-labels (block is) n vs = omega arith
-  child-labels (select k v cs ds) n vs = omega arith
-  child-labels (loop b c is) n vs = loop-labels (always F c) n c vs
+  child-labels (select k v cs ds u) n vs = omega arith
+  child-labels (loop b c is u) n vs = loop-labels (always F c) n c vs
   child-labels (exit i ws) n vs = omega arith
 
   exit-labels : (r : ℕ) (p : Place) → length (labels (exitTerm F r p)) ≤ labelsAt (regionExit r)

@@ -126,8 +126,8 @@ module _ (F : Func) where
   -- two targets.
   node-values : (d : Node) → length (readAt d) + 2 * length (initsOf d) ≤ 2 * length (nodeValues d)
   node-values (block is) = omega arith
-  node-values (select k v cs ds) = omega arith
-  node-values (loop b c vs) = omega arith
+  node-values (select k v cs ds u) = omega arith
+  node-values (loop b c vs u) = omega arith
   node-values (exit i vs) = omega arith
 
   node-lines : total (λ n. pointWeight F (nodeEntry n)) (below (length (F .nodes))) + total (λ n. pointWeight F (nodeExit n)) (below (length (F .nodes)))
@@ -285,8 +285,8 @@ module _ (F : Func) where
 
     in-keys : (n : ℕ) (d : Node) → nodeOf F n ≡ d → (v : Value) → In v (inBlock F d n .keys) → In v inKeys
     in-keys n (block is) e v i = absurd (in-nil i)
-    in-keys n (select k w cs ds) e v i = absurd (in-nil i)
-    in-keys n (loop b c is) e v i = in-gather (insKeys F) (in-below (length (F .regions)) b (ok .forest .child-range n b (subst (λ (d : Node). In b (childrenOf d)) (sym e) here))) i
+    in-keys n (select k w cs ds u) e v i = absurd (in-nil i)
+    in-keys n (loop b c is u) e v i = in-gather (insKeys F) (in-below (length (F .regions)) b (ok .forest .child-range n b (subst (λ (d : Node). In b (childrenOf d)) (sym e) here))) i
     in-keys n (exit j vs) e v i = absurd (in-nil i)
 
     step-keys : (x : CfgPoint × BlockLifting) (o : Option CfgPoint) → Step F x o → (v : Value) → In v (x .1 .keys) → In v (inKeys ++ setKeys)

@@ -51,8 +51,8 @@ opWeight o = (head + imm + 1) + (imm * immTotal (opInsts (o .kind)) + length (o 
 -- a merge
 abbrev pub mergeWeight : Merge → ℕ
 mergeWeight noMerge = 0
-mergeWeight (selectionMerge a) = head + imm + 1
-mergeWeight (loopMerge a b) = head + imm + 2
+mergeWeight (selectionMerge a u) = head + imm + 1
+mergeWeight (loopMerge a b u) = head + imm + 2
 
 -- a merge and a way out, but for the way out's head
 abbrev pub endWeight : Terminator → ℕ
@@ -73,14 +73,14 @@ ctrlWeight c = imm * immTotal (ctrlInsts (c .kind)) + (length (c .ins) + (2 * mo
 -- a node: what its entry's way out reads, and what moves along the edges to it that have no values of their own
 abbrev pub readAt : Node → List Value
 readAt (block is) = []
-readAt (select k v cs ds) = v ∷ []
-readAt (loop b c vs) = []
+readAt (select k v cs ds u) = v ∷ []
+readAt (loop b c vs u) = []
 readAt (exit i vs) = vs
 
 abbrev pub initsOf : Node → List Value
 initsOf (block is) = []
-initsOf (select k v cs ds) = []
-initsOf (loop b c vs) = vs
+initsOf (select k v cs ds u) = []
+initsOf (loop b c vs u) = vs
 initsOf (exit i vs) = []
 
 module _ (F : Func) where

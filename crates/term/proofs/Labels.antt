@@ -65,7 +65,7 @@ module _ {w : List ℕ} {x : Way} (k : Known w x) where
     omega (arith, list-count (ctrl-targets (k .tables) c (fits-as k g))),
   )
 
-  pub select-count : {s : ℕ} → x ≡ Select s → {n : ℕ} → n ≡ length (childrenOf (nodeOf (funcOf w) s)) → (n ≡ length (to x)) × (n ≤ 4095)
+  pub select-count : {s u : ℕ} → x ≡ Select s u → {n : ℕ} → n ≡ length (childrenOf (nodeOf (funcOf w) s)) → (n ≡ length (to x)) × (n ≤ 4095)
   select-count {s} g {n} e = (
     e ∙ sym (length-map (childrenOf (nodeOf (funcOf w) s)) regionEntry) ∙ sym (ap (λ (y : Way). length (to y)) g),
     omega (arith, list-count (node-children (k .tables) s (fits-as k g))),
@@ -83,7 +83,7 @@ module _ {w : List ℕ} {x : Way} (k : Known w x) where
         let l : i < length (ctrlLine (funcOf w) c .1 .to) = omega (arith, within g, length-map (ctrlLine (funcOf w) c .1 .to) regionEntry) in
         (l, low-region k (k .walkable .named .target c i (fits-as k g) l))
 
-    pub target-case : {s : ℕ} → x ≡ Select s → (i < length (childrenOf (nodeOf (funcOf w) s))) × (getD (childrenOf (nodeOf (funcOf w) s)) i 0 < 128)
+    pub target-case : {s u : ℕ} → x ≡ Select s u → (i < length (childrenOf (nodeOf (funcOf w) s))) × (getD (childrenOf (nodeOf (funcOf w) s)) i 0 < 128)
     target-case {s} g =
         let l : i < length (childrenOf (nodeOf (funcOf w) s)) = omega (arith, within g, length-map (childrenOf (nodeOf (funcOf w) s)) regionEntry) in
         (l, low-region k (k .walkable .named .child s i (fits-as k g) l))
@@ -228,7 +228,7 @@ module _ (F : Func) {x : Way} where
   pub sole-leave : {n : ℕ} → x ≡ Leave n → Nowhere ≡ soleOf F x
   sole-leave {n} g = sole-as g (barred (inBlock F (nodeOf F n) n .term .kind) (nodeValues (nodeOf F n)))
 
-  pub sole-select : {n : ℕ} → x ≡ Select n → Nowhere ≡ soleOf F x
+  pub sole-select : {n u : ℕ} → x ≡ Select n u → Nowhere ≡ soleOf F x
   sole-select {n} g = sole-as g (barred (inBlock F (nodeOf F n) n .term .kind) (nodeValues (nodeOf F n)))
 
   pub sole-join : {n r : ℕ} → x ≡ Join n r → {s : Sole} {q : ℕ} → s ≡ bareSole q (regionOf F r .outs) → q ≡ pointNumber (nodeExit n) → s ≡ soleOf F x
@@ -277,5 +277,5 @@ few-merges x e = omega (arith, go (wayMerge x))
   where
     go : (m : Merge) → length (mergeLabels m) ≤ 2
     go noMerge = omega arith
-    go (selectionMerge a) = omega arith
-    go (loopMerge a b) = omega arith
+    go (selectionMerge a u) = omega arith
+    go (loopMerge a b u) = omega arith

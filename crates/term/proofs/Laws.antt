@@ -12,7 +12,7 @@ use lib.Dec.{eqb}
 use lib.ListN.{length, getD}
 use borrow.Author.Tests.{eq-eqb, ne-eqb, lt-ltb, le-ltb}
 use Rattle.lifting.specs.Ast.{ControlInst, Decl, Func, Node, Value, block, boolCond, const, exit, loop, nodeOutput, regionInput, select, spvInst}
-use Rattle.lifting.specs.Parts.{childrenOf, nodeOf, nodeValues, outKeys, regionOf}
+use Rattle.lifting.specs.Parts.{childrenOf, mergeControl, nodeOf, nodeValues, outKeys, regionOf}
 use Rattle.lifting.specs.Points.{BlockLifting, CfgPoint, Terminator, noMerge, selectionMerge, nodeEntry, nodeExit, regionEntry, regionExit, straight}
 use Rattle.lifting.specs.Walk.{Place, always, childTerm, entryKeys, exitTerm, inBlock, inNode, loopTerm, rootTerm, top, walkOf}
 use Rattle.func.specs.declared.NodeKind.{NodeKind}
@@ -32,7 +32,7 @@ use Rattle.points.specs.Walk.{Walkable, few-nodes}
 use Rattle.term.specs.At.{InText, blockAt, block-is, blockOf, in-text, placeBy, placeIn, pointAt}
 use Rattle.term.specs.Visited.{Visited, point-small, word-is}
 use Rattle.term.specs.declared.Way.{Way}
-use Rattle.term.specs.declared.Way.the-variants.{Straight, Return, Line, Loop as LoopWay, Join, Repeat, Test}
+use Rattle.term.specs.declared.Way.the-variants.{Straight, Return, Line, Select as SelectWay, Loop as LoopWay, Join, Repeat, Test}
 use Rattle.term.specs.Way.{WayIs, isLoop, wayTerm}
 
 -- ---- points by number
@@ -116,9 +116,9 @@ kindLoops Exit = false
 
 loop-kind : (d : Node) → kindLoops (nodeKind d) ≡ isLoop d
 loop-kind (block is) = refl
-loop-kind (select boolCond v cs ds) = refl
-loop-kind (select (spvInst i) v cs ds) = refl
-loop-kind (loop b c is) = refl
+loop-kind (select boolCond v cs ds u) = refl
+loop-kind (select (spvInst i) v cs ds u) = refl
+loop-kind (loop b c is u) = refl
 loop-kind (exit i vs) = refl
 
 pub is-loop : (d : Node) {k x : NodeKind} → k ≡ nodeKind d → k ≡ x → kindLoops x ≡ isLoop d
@@ -126,28 +126,28 @@ is-loop d e g = ap kindLoops (sym g ∙ e) ∙ loop-kind d
 
 pub loop-child : (d : Node) → isLoop d ≡ true → 0 < length (childrenOf d)
 loop-child (block is) e = absurd (false≢true e)
-loop-child (select k v cs ds) e = absurd (false≢true e)
-loop-child (loop b c is) e = omega arith
+loop-child (select k v cs ds u) e = absurd (false≢true e)
+loop-child (loop b c is u) e = omega arith
 loop-child (exit i vs) e = absurd (false≢true e)
 
 pub loop-value : (d : Node) → isLoop d ≡ true → 0 < length (nodeValues d)
 loop-value (block is) e = absurd (false≢true e)
-loop-value (select k v cs ds) e = absurd (false≢true e)
-loop-value (loop b c is) e = omega arith
+loop-value (select k v cs ds u) e = absurd (false≢true e)
+loop-value (loop b c is u) e = omega arith
 loop-value (exit i vs) e = absurd (false≢true e)
 
 module _ (F : Func) where
   -- phis of entries
   pub loop-keys : (d : Node) (n : ℕ) → isLoop d ≡ true → length (regionOf F (getD (childrenOf d) 0 0) .ins) ≡ length (inBlock F d n .keys)
   loop-keys (block is) n e = absurd (false≢true e)
-  loop-keys (select k v cs ds) n e = absurd (false≢true e)
-  loop-keys (loop b c is) n e = sym (length-tabulate (regionInput b) 0 (length (regionOf F b .ins)))
+  loop-keys (select k v cs ds u) n e = absurd (false≢true e)
+  loop-keys (loop b c is u) n e = sym (length-tabulate (regionInput b) 0 (length (regionOf F b .ins)))
   loop-keys (exit i vs) n e = absurd (false≢true e)
 
   pub no-keys : (d : Node) (n : ℕ) → isLoop d ≡ false → 0 ≡ length (inBlock F d n .keys)
   no-keys (block is) n e = refl
-  no-keys (select k v cs ds) n e = refl
-  no-keys (loop b c is) n e = absurd (false≢true (sym e))
+  no-keys (select k v cs ds u) n e = refl
+  no-keys (loop b c is u) n e = absurd (false≢true (sym e))
   no-keys (exit i vs) n e = refl
 
   pub body-keys : {r : ℕ} (p : Place) → r ≡ 0 → 0 ≡ length (entryKeys F r p)
@@ -184,8 +184,8 @@ module _ (F : Func) where
   back-term : (d : Node) (n : ℕ) (vs : List Value) (t : Bool) → isLoop d ≡ true → t ≡ always F (getD (nodeValues d) 0 (const 0))
       → childTerm F d n vs ≡ loopTerm F t n (firstValue (nodeValues d)) vs
   back-term (block is) n vs t l e = absurd (false≢true l)
-  back-term (select k v cs ds) n vs t l e = absurd (false≢true l)
-  back-term (loop b c is) n vs t l e = ap (λ (y : Bool). loopTerm F y n c vs) (sym e)
+  back-term (select k v cs ds u) n vs t l e = absurd (false≢true l)
+  back-term (loop b c is u) n vs t l e = ap (λ (y : Bool). loopTerm F y n c vs) (sym e)
   back-term (exit i ws) n vs t l e = absurd (false≢true l)
 
   -- the way back of loop n, whose condition is v
@@ -202,8 +202,8 @@ module _ (F : Func) where
 
   join-term : (d : Node) (n r : ℕ) → isLoop d ≡ false → In r (childrenOf d) → childTerm F d n (regionOf F r .outs) ≡ wayTerm F (Join n r)
   join-term (block is) n r l i = absurd (in-nil i)
-  join-term (select k v cs ds) n r l i = refl
-  join-term (loop b c is) n r l i = absurd (false≢true (sym l))
+  join-term (select k v cs ds u) n r l i = refl
+  join-term (loop b c is u) n r l i = absurd (false≢true (sym l))
   join-term (exit j ws) n r l i = absurd (in-nil i)
 
   pub join-way : {n r : ℕ} → isLoop (nodeOf F n) ≡ false → In r (childrenOf (nodeOf F n)) → (n < length (F .nodes)) × (r < length (F .regions))
@@ -225,34 +225,34 @@ module _ (F : Func) where
 
   -- ---- ways out of a node's entry
 
-  abbrev selectTerm : Node → ℕ → Terminator
-  selectTerm d n = record {
+  abbrev selectTerm : Node → ℕ → ℕ → Terminator
+  selectTerm d n u = record {
     attrs = 0;
     kind = inBlock F d n .term .kind;
     ins = nodeValues d;
     targets = map regionEntry (childrenOf d);
     vals = [];
-    merge = selectionMerge (nodeExit n);
+    merge = selectionMerge (nodeExit n) u;
   }
 
   abbrev leaveTerm : Node → ℕ → Terminator
   leaveTerm d n = record { attrs = 0; kind = inBlock F d n .term .kind; ins = nodeValues d; targets = []; vals = []; merge = noMerge }
 
-  abbrev loopIn : ℕ → ℕ → Terminator
-  loopIn n b = wayTerm F (LoopWay n b)
+  abbrev loopIn : ℕ → ℕ → ℕ → Terminator
+  loopIn n b u = wayTerm F (LoopWay n b u)
 
   abbrev InWay : Node → ℕ → NodeKind → Type 0
   InWay d n Block = inBlock F d n .term ≡ straight (nodeExit n)
-  InWay d n SelectBool = inBlock F d n .term ≡ selectTerm d n
-  InWay d n SelectInst = inBlock F d n .term ≡ selectTerm d n
-  InWay d n Loop = (0 < length (childrenOf d)) × (inBlock F d n .term ≡ loopIn n (getD (childrenOf d) 0 0))
+  InWay d n SelectBool = inBlock F d n .term ≡ selectTerm d n (mergeControl d)
+  InWay d n SelectInst = inBlock F d n .term ≡ selectTerm d n (mergeControl d)
+  InWay d n Loop = (0 < length (childrenOf d)) × (inBlock F d n .term ≡ loopIn n (getD (childrenOf d) 0 0) (mergeControl d))
   InWay d n Exit = inBlock F d n .term ≡ leaveTerm d n
 
   in-term : (d : Node) (n : ℕ) → InWay d n (nodeKind d)
   in-term (block is) n = refl
-  in-term (select boolCond v cs ds) n = refl
-  in-term (select (spvInst i) v cs ds) n = refl
-  in-term (loop b c is) n = (omega arith, refl)
+  in-term (select boolCond v cs ds u) n = refl
+  in-term (select (spvInst i) v cs ds u) n = refl
+  in-term (loop b c is u) n = (omega arith, refl)
   in-term (exit i vs) n = refl
 
   pub in-way : (d : Node) (n : ℕ) {k x : NodeKind} → k ≡ nodeKind d → k ≡ x → InWay d n x
@@ -270,15 +270,20 @@ module _ {w : List ℕ} (t : Tables w) {n : ℕ} (h : n < length (funcOf w .node
     fits = omega (arith, number-low (nodeExit n) low-node);
   }
 
+  -- a select has its control number
+  pub select-way : inBlock (funcOf w) (nodeOf (funcOf w) n) n .term ≡ selectTerm (funcOf w) (nodeOf (funcOf w) n) n (mergeControl (nodeOf (funcOf w) n))
+      → {u : ℕ} → u ≡ mergeControl (nodeOf (funcOf w) n) → WayIs (funcOf w) (inBlock (funcOf w) (nodeOf (funcOf w) n) n .term) (SelectWay n u)
+  select-way e q = record { is = e ∙ ap (selectTerm (funcOf w) (nodeOf (funcOf w) n) n) (sym q); fits = h }
+
   -- a loop goes into its body
   module _ {k : NodeKind} (e : k ≡ nodeKind (nodeOf (funcOf w) n)) (g : k ≡ Loop) where
     pub loop-holds : 0 < length (childrenOf (nodeOf (funcOf w) n))
     loop-holds = in-way (funcOf w) (nodeOf (funcOf w) n) n e g .0
 
-    pub loop-way : Walkable (funcOf w) → {b : ℕ} → b ≡ getD (childrenOf (nodeOf (funcOf w) n)) 0 0
-        → WayIs (funcOf w) (inBlock (funcOf w) (nodeOf (funcOf w) n) n .term) (LoopWay n b)
-    loop-way ok {b} q = record {
-      is = in-way (funcOf w) (nodeOf (funcOf w) n) n e g .1 ∙ ap (loopIn (funcOf w) n) (sym q);
+    pub loop-way : Walkable (funcOf w) → {b u : ℕ} → b ≡ getD (childrenOf (nodeOf (funcOf w) n)) 0 0 → u ≡ mergeControl (nodeOf (funcOf w) n)
+        → WayIs (funcOf w) (inBlock (funcOf w) (nodeOf (funcOf w) n) n .term) (LoopWay n b u)
+    loop-way ok q z = record {
+      is = in-way (funcOf w) (nodeOf (funcOf w) n) n e g .1 ∙ ap₂ (loopIn (funcOf w) n) (sym q) (sym z);
       fits = (h, omega (arith, ok .named .child n 0 h loop-holds));
     }
 

@@ -38,16 +38,16 @@ wayMerge (Straight q) = noMerge
 wayMerge (Return r) = noMerge
 wayMerge (Line c) = noMerge
 wayMerge (Leave n) = noMerge
-wayMerge (Select n) = selectionMerge (nodeExit n)
-wayMerge (Loop n b) = loopMerge (nodeExit n) (regionExit b)
+wayMerge (Select n u) = selectionMerge (nodeExit n) u
+wayMerge (Loop n b u) = loopMerge (nodeExit n) (regionExit b) u
 wayMerge (Join n r) = noMerge
 wayMerge (Repeat n r) = noMerge
 wayMerge (Test n r) = noMerge
 
 abbrev pub isLoop : Node → Bool
 isLoop (block is) = false
-isLoop (select k v cs ds) = false
-isLoop (loop b c is) = true
+isLoop (select k v cs ds u) = false
+isLoop (loop b c is u) = true
 isLoop (exit i vs) = false
 
 abbrev pub isBranch : CtrlKind → Bool
@@ -86,21 +86,21 @@ module _ (F : Func) where
   wayTerm (Line c) = lineTerm (ctrlLine F c .1)
   wayTerm (Leave n) =
       record { attrs = 0; kind = inBlock F (nodeOf F n) n .term .kind; ins = nodeValues (nodeOf F n); targets = []; vals = []; merge = noMerge }
-  wayTerm (Select n) = record {
+  wayTerm (Select n u) = record {
     attrs = 0;
     kind = inBlock F (nodeOf F n) n .term .kind;
     ins = nodeValues (nodeOf F n);
     targets = map regionEntry (childrenOf (nodeOf F n));
     vals = [];
-    merge = selectionMerge (nodeExit n);
+    merge = selectionMerge (nodeExit n) u;
   }
-  wayTerm (Loop n b) = record {
+  wayTerm (Loop n b u) = record {
     attrs = 0;
     kind = branch;
     ins = [];
     targets = regionEntry b ∷ [];
     vals = [];
-    merge = loopMerge (nodeExit n) (regionExit b);
+    merge = loopMerge (nodeExit n) (regionExit b) u;
   }
   wayTerm (Join n r) = record {
     attrs = 0;
@@ -119,8 +119,8 @@ module _ (F : Func) where
   WayFits (Return r) = r < length (F .regions)
   WayFits (Line c) = c < length (F .ctrls)
   WayFits (Leave n) = n < length (F .nodes)
-  WayFits (Select n) = n < length (F .nodes)
-  WayFits (Loop n b) = (n < length (F .nodes)) × (b < length (F .regions))
+  WayFits (Select n u) = n < length (F .nodes)
+  WayFits (Loop n b u) = (n < length (F .nodes)) × (b < length (F .regions))
   WayFits (Join n r) = (n < length (F .nodes)) × (r < length (F .regions))
   WayFits (Repeat n r) = (n < length (F .nodes)) × (r < length (F .regions))
   WayFits (Test n r) = (n < length (F .nodes)) × (r < length (F .regions))
@@ -135,8 +135,8 @@ module _ (F : Func) where
   way-merge (Return r) = refl
   way-merge (Line c) = refl
   way-merge (Leave n) = refl
-  way-merge (Select n) = refl
-  way-merge (Loop n b) = refl
+  way-merge (Select n u) = refl
+  way-merge (Loop n b u) = refl
   way-merge (Join n r) = refl
   way-merge (Repeat n r) = refl
   way-merge (Test n r) = refl

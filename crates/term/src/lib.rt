@@ -34,14 +34,15 @@ pub enum Point {
 }
 
 // A way out: straight to a point by its number; a return from a root that has no ctrl line; a ctrl line; from node n, an exit or a select;
-// from loop n into its body; from region r of node n, past a select, back to a loop's start, or back or out.
+// from loop n into its body; from region r of node n, past a select, back to a loop's start, or back or out. A select and a loop have the control
+// word of their merge.
 pub enum Way {
     Straight(usize),
     Return(usize),
     Line(usize),
     Leave(usize),
-    Select(usize),
-    Loop(usize, usize),
+    Select(usize, u32),
+    Loop(usize, usize, u32),
     Join(usize, usize),
     Repeat(usize, usize),
     Test(usize, usize),

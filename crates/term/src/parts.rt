@@ -20,7 +20,7 @@ ghost use mathlib.Core.List.{[], _∷_};
 ghost use Prim.Native.Nat.{_≤_, _<_};
 ghost use lib.ListN.{length, getD};
 ghost use Rattle.lifting.specs.Parts.{regionOf};
-ghost use Rattle.lifting.specs.Points.{loopMerge, nodeEntry, nodeExit, regionEntry, regionExit};
+ghost use Rattle.lifting.specs.Points.{mergeNumber, nodeEntry, nodeExit, regionEntry, regionExit};
 ghost use Rattle.lifting.specs.Absorb.{mergeLabels, soleTarget};
 ghost use Rattle.func.specs.Decode.{funcOf};
 ghost use Rattle.func.specs.Tables.{Tables, ctrlLine};
@@ -37,8 +37,25 @@ pub fn merges(w: Way) -> usize
         Way::Return(_) => 0,
         Way::Line(_) => 0,
         Way::Leave(_) => 0,
-        Way::Select(_) => 1,
-        Way::Loop(_, _) => 2,
+        Way::Select(_, _) => 1,
+        Way::Loop(_, _, _) => 2,
+        Way::Join(_, _) => 0,
+        Way::Repeat(_, _) => 0,
+        Way::Test(_, _) => 0,
+    }
+}
+
+// The control number of its merge, 0 without one.
+pub fn merge_control(w: Way) -> u32
+    ensures { λ x. ⌜ x ≡ mergeNumber (wayMerge w) ⌝ }
+{
+    match w {
+        Way::Straight(_) => 0,
+        Way::Return(_) => 0,
+        Way::Line(_) => 0,
+        Way::Leave(_) => 0,
+        Way::Select(_, u) => u,
+        Way::Loop(_, _, u) => u,
         Way::Join(_, _) => 0,
         Way::Repeat(_, _) => 0,
         Way::Test(_, _) => 0,
@@ -49,7 +66,7 @@ pub fn merges(w: Way) -> usize
 fn loop_merge(n: usize, b: usize, k: usize) -> usize
     requires { ⌜ (n < 128) × (b < 128) ⌝ }
     requires { ⌜ k < 2 ⌝ }
-    ensures { λ x. ⌜ x ≡ pointNumber (getD (mergeLabels (loopMerge (nodeExit n) (regionExit b))) k (regionEntry 0)) ⌝ }
+    ensures { λ x. ⌜ x ≡ pointNumber (getD (nodeExit n ∷ regionExit b ∷ []) k (regionEntry 0)) ⌝ }
 {
     if k == 0 {
         return node_end(n);
@@ -68,8 +85,8 @@ pub fn merge(func: &[u32], w: Way, k: usize) -> usize
         Way::Return(_) => 0,
         Way::Line(_) => 0,
         Way::Leave(_) => 0,
-        Way::Select(n) => node_end(n),
-        Way::Loop(n, b) => loop_merge(n, b, k),
+        Way::Select(n, _) => node_end(n),
+        Way::Loop(n, b, _) => loop_merge(n, b, k),
         Way::Join(_, _) => 0,
         Way::Repeat(_, _) => 0,
         Way::Test(_, _) => 0,
@@ -87,8 +104,8 @@ pub fn targets(func: &[u32], w: Way) -> usize
         Way::Return(_) => 0,
         Way::Line(c) => target_count(func, c),
         Way::Leave(_) => 0,
-        Way::Select(n) => node_child_count(func, n),
-        Way::Loop(_, _) => 1,
+        Way::Select(n, _) => node_child_count(func, n),
+        Way::Loop(_, _, _) => 1,
         Way::Join(_, _) => 1,
         Way::Repeat(_, _) => 1,
         Way::Test(_, _) => 2,
@@ -118,8 +135,8 @@ pub fn target_at(func: &[u32], w: Way, k: usize) -> usize
         Way::Return(_) => 0,
         Way::Line(c) => region_start(target(func, c, k)),
         Way::Leave(_) => 0,
-        Way::Select(n) => region_start(node_child(func, n, k)),
-        Way::Loop(_, b) => region_start(b),
+        Way::Select(n, _) => region_start(node_child(func, n, k)),
+        Way::Loop(_, b, _) => region_start(b),
         Way::Join(n, _) => node_end(n),
         Way::Repeat(n, _) => node_start(n),
         Way::Test(n, _) => either(n, k),
@@ -187,8 +204,8 @@ pub fn sole(func: &[u32], w: Way) -> Sole
         Way::Return(_) => Sole::Nowhere,
         Way::Line(c) => line_sole(func, c),
         Way::Leave(_) => Sole::Nowhere,
-        Way::Select(_) => Sole::Nowhere,
-        Way::Loop(_, _) => Sole::Nowhere,
+        Way::Select(_, _) => Sole::Nowhere,
+        Way::Loop(_, _, _) => Sole::Nowhere,
         Way::Join(n, r) => bare(func, r, node_end(n)),
         Way::Repeat(n, r) => bare(func, r, node_start(n)),
         Way::Test(_, _) => Sole::Nowhere,

@@ -9,6 +9,7 @@ use func::Val;
 use func::look::const_opcode;
 use func::look::const_total;
 use func::look::node_child;
+use func::look::node_control;
 use func::look::node_kind;
 use func::look::node_value;
 use func::look::region_in_count;
@@ -170,9 +171,9 @@ fn node_entry(func: &[u32], n: usize) -> Way
     let kind = node_kind(func, n);
     match kind {
         NodeKind::Block => Way::Straight(node_end(n)),
-        NodeKind::SelectBool => Way::Select(n),
-        NodeKind::SelectInst => Way::Select(n),
-        NodeKind::Loop => Way::Loop(n, node_child(func, n, 0)),
+        NodeKind::SelectBool => Way::Select(n, node_control(func, n)),
+        NodeKind::SelectInst => Way::Select(n, node_control(func, n)),
+        NodeKind::Loop => Way::Loop(n, node_child(func, n, 0), node_control(func, n)),
         NodeKind::Exit => Way::Leave(n),
     }
 }

@@ -16,7 +16,7 @@ use Rattle.lifting.specs.Lists.{tabulate, below, every, gather, within, distinc
 use Rattle.lifting.specs.Ast.{Func, block}
 use Rattle.lifting.specs.Parts.{regionOf, nodeOf, childrenOf, values, insts, nodeList, opList, childList, ctrlRegions, requiredIds}
 use Rattle.lifting.specs.Limits.{maxOpcode, withinLimits}
-use Rattle.lifting.specs.References.{named, instFits, referencesHold}
+use Rattle.lifting.specs.References.{named, instFits, controlHolds, referencesHold}
 use Rattle.lifting.specs.Tree.{standsOnce, holds, someIf, parentBelow, parentOf, around, aroundItself, rootsHaveWaysOut, isTree}
 use Rattle.func.specs.Lists.{both, every-at, every-append}
 use Rattle.func.specs.Layout.{nodeRefs, opRefs, childRefs, regions, nodes, ops, ctrls, entryRoom}
@@ -123,7 +123,8 @@ references F e =
     let x = every (λ x. ltb 0 x) (requiredIds F) in
     let y = distinct (map (λ c. c .id) (F .consts)) in
     let z = every (λ c. leb (c .opcode) maxOpcode) (F .consts) in
-    let q = both (a && b && c) d (both (a && b && c && d) x (both (a && b && c && d && x) y (both (a && b && c && d && x && y) z (both (a && b && c && d && x && y && z) (every instFits (insts F)) e .0) .0) .0) .0) in
+    let u = every controlHolds (F .nodes) in
+    let q = both (a && b && c) d (both (a && b && c && d) x (both (a && b && c && d && x) y (both (a && b && c && d && x && y) z (both (a && b && c && d && x && y && z) u (both (a && b && c && d && x && y && z && u) (every instFits (insts F)) e .0) .0) .0) .0) .0) in
     let r = both (a && b) c (q .0) in
     (both a b (r .0) .1, r .1, every-append (λ r. ltb r (length (F .regions))) (childList F) (ctrlRegions F) (q .1) .0)
 

@@ -20,20 +20,24 @@ consts-distinct-requires c κs = let s = c .before .before .before .before .befo
 all-hold-requires-2 : tie.Need-all-hold-requires-2
 all-hold-requires-2 c κs = let s = c .before .before .before .before .before .before .before .before .before .before .before .before in ready (s .args .func .now) (s .pre .0) (s .pre .1)
 
+all-hold-requires-3 : tie.Need-all-hold-requires-3
+all-hold-requires-3 c κs = let s = c .before .before .before .before .before .before .before .before .before .before .before .before .before .before in ready (s .args .func .now) (s .pre .0) (s .pre .1)
+
 insts-fit-requires : tie.Need-insts-fit-requires
-insts-fit-requires c κs = let s = c .before .before .before .before .before .before .before .before .before .before .before .before .before .before in ready (s .args .func .now) (s .pre .0) (s .pre .1)
+insts-fit-requires c κs = let s = c .before .before .before .before .before .before .before .before .before .before .before .before .before .before .before .before in ready (s .args .func .now) (s .pre .0) (s .pre .1)
 
 returns : tie.Need-returns
 unfolding referencesTest
 returns c =
-    let p = joined (c .before .before .before .before .before .before .before .before .before .before .before .before .before .both .ensures) (c .before .before .before .before .before .before .before .before .before .before .before .before .before .before .before .all-hold .ensures) (c .before .before .before .before .before .before .before .before .before .before .before .before .before .before .all-below .ensures) in
-    let q = joined (c .before .before .before .before .before .before .before .before .before .before .before .both2 .ensures) p (c .before .before .before .before .before .before .before .before .before .before .before .before .all-below2 .ensures) in
-    let r = joined (c .before .before .before .before .before .before .before .before .before .both3 .ensures) q (c .before .before .before .before .before .before .before .before .before .before .regions-below .ensures) in
-    let s = joined (c .before .before .before .before .before .before .before .both4 .ensures) r (c .before .before .before .before .before .before .before .before .ids-given .ensures) in
-    let t = joined (c .before .before .before .before .before .both5 .ensures) s (c .before .before .before .before .before .before .consts-distinct .ensures) in
-    let u = joined (c .before .before .before .both6 .ensures) t (c .before .before .before .before .all-hold2 .ensures) in
-    let v = joined (c .before .both7 .ensures) u (c .before .before .insts-fit .ensures) in
-    c .both8 .ensures ∙ ap (λ (x : Bool). x && c .before .before .before .before .before .before .before .before .before .before .before .before .before .before .before .before .before .args .ctrls) v
+    let p = joined (c .before .before .before .before .before .before .before .before .before .before .before .before .before .before .before .both .ensures) (c .before .before .before .before .before .before .before .before .before .before .before .before .before .before .before .before .before .all-hold .ensures) (c .before .before .before .before .before .before .before .before .before .before .before .before .before .before .before .before .all-below .ensures) in
+    let q = joined (c .before .before .before .before .before .before .before .before .before .before .before .before .before .both2 .ensures) p (c .before .before .before .before .before .before .before .before .before .before .before .before .before .before .all-below2 .ensures) in
+    let r = joined (c .before .before .before .before .before .before .before .before .before .before .before .both3 .ensures) q (c .before .before .before .before .before .before .before .before .before .before .before .before .regions-below .ensures) in
+    let s = joined (c .before .before .before .before .before .before .before .before .before .both4 .ensures) r (c .before .before .before .before .before .before .before .before .before .before .ids-given .ensures) in
+    let t = joined (c .before .before .before .before .before .before .before .both5 .ensures) s (c .before .before .before .before .before .before .before .before .consts-distinct .ensures) in
+    let u = joined (c .before .before .before .before .before .both6 .ensures) t (c .before .before .before .before .before .before .all-hold2 .ensures) in
+    let v = joined (c .before .before .before .both7 .ensures) u (c .before .before .before .before .all-hold3 .ensures) in
+    let x = joined (c .before .both8 .ensures) v (c .before .before .insts-fit .ensures) in
+    c .both9 .ensures ∙ ap (λ (y : Bool). y && c .before .before .before .before .before .before .before .before .before .before .before .before .before .before .before .before .before .before .before .args .ctrls) x
 
 pub references-spec : {M : Type 1} → statement M
 references-spec =
@@ -51,6 +55,8 @@ references-spec =
     consts-distinct-requires
     (λ c κs. search needs)
     all-hold-requires-2
+    (λ c κs. search needs)
+    all-hold-requires-3
     (λ c κs. search needs)
     insts-fit-requires
     (λ c κs. search needs)

@@ -1,9 +1,8 @@
--- `forms::init_form` meets its contract: values behind their word, and the end of the line. Assumes nothing.
-use Rattle.lifting.specs.Grammar.{sub, values}
+-- `forms::init_form` meets its contract: values behind their word. Assumes nothing.
+use Rattle.lifting.specs.Grammar.{values}
 use Rattle.cursor.specs.Answers.{stepOf}
 use Rattle.cursor.proofs.Laws.{told}
-use Rattle.lines.specs.Stores.{met}
-use Rattle.lines.proofs.Laws.{last-refused, last-stored, sub-denied, sub-took}
+use Rattle.lines.proofs.Laws.{sub-denied, sub-took}
 use borrow.Author.Needs.{needs}
 use Rattle.lines.proofs.forms.init_form.Statement.{statement}
 use Rattle.lines.proofs.forms.init_form.Tie as tie
@@ -11,19 +10,13 @@ use Rattle.lines.proofs.forms.init_form.Tie as tie
 returns : tie.Need-returns
 returns c =
     let p = told stepOf (c .enum-told .given .1) (c .before .before .word .ensures) in
-    (last-refused (sub "init" values) (sub-denied "init" values p), search needs)
+    (sub-denied "init" values p, search needs)
 
 returns-2 : tie.Need-returns-2
 returns-2 c =
-    let p = told stepOf (c .before .before .before .before .before .before .before .c .given .1) (c .before .before .before .before .before .before .before .before .before .word .ensures) in
-    let q = met (c .enum-told2 .given .1) (c .before .before .before .before .value-list .ensures .0) in
-    (last-refused (sub "init" values) (sub-took "init" values p q), search needs)
-
-returns-3 : tie.Need-returns-3
-returns-3 c =
-    let p = told stepOf (c .before .before .before .before .before .before .before .before .before .before .c .given .1) (c .before .before .before .before .before .before .before .before .before .before .before .before .word .ensures) in
-    let q = met (c .before .before .before .d .given .1) (c .before .before .before .before .before .before .before .value-list .ensures .0) in
-    (last-stored (sub "init" values) (sub-took "init" values p q) (c .word2 .ensures), search needs)
+    let p = told stepOf (c .before .before .before .before .before .c .given .1) (c .before .before .before .before .before .before .before .word .ensures) in
+    let rest = c .before .before .value-list .ensures .0 in
+    (sub-took "init" values p rest, search needs)
 
 pub init-form-spec : {M : Type 1} → statement M
 init-form-spec =
@@ -36,10 +29,4 @@ init-form-spec =
     returns
     (λ c κs. search needs)
     (λ c. search needs)
-    (λ c. search needs)
-    (λ c. search needs)
-    returns-2
-    (λ c. search needs)
-    (λ c κs. search needs)
-    (λ c. search needs)
-    returns-3)
+    returns-2)

@@ -5,7 +5,7 @@ use Rattle.cursor.proofs.Laws.{told}
 use Rattle.func.specs.Store.{folds}
 use Rattle.func.specs.Keep.{keepValue}
 use Rattle.lines.specs.Stores.{first-denied, first-stored, stores-one}
-use Rattle.lines.specs.Tails.{lastForm, loopLists}
+use Rattle.lines.specs.Tails.{loopLists}
 use borrow.Author.Needs.{needs}
 use Rattle.lines.proofs.nodes.loop_lists.Statement.{statement}
 use Rattle.lines.proofs.nodes.loop_lists.Tie as tie
@@ -14,7 +14,7 @@ returns : tie.Need-returns
 unfolding loopLists
 returns c =
     let p = told foundOf (c .enum-told .given .1) (c .before .before .value .ensures) in
-    (first-denied value (lastForm (sub "init" values)) p, search needs)
+    (first-denied value (sub "init" values) p, search needs)
 
 returns-2 : tie.Need-returns-2
 unfolding loopLists
@@ -22,7 +22,7 @@ returns-2 c =
     let p = told foundOf (c .before .before .before .before .before .before .before .before .before .v .given .1) (c .before .before .before .before .before .before .before .before .before .before .before .value .ensures) in
     let kept = c .before .before .before .before .before .before .keep-value .ensures in
     let rest = c .before .before .init-form .ensures .0 in
-    (first-stored value (lastForm (sub "init" values)) (folds keepValue) (stores-one p (kept .0)) rest, search needs)
+    (first-stored value (sub "init" values) (folds keepValue) (stores-one p (kept .0)) rest, search needs)
 
 pub loop-lists-spec : {M : Type 1} → statement M
 loop-lists-spec =

@@ -7,12 +7,12 @@ use Rattle.lines.proofs.nodes.select_row.Tie as tie
 returns : tie.Need-returns
 returns c =
     let is = c .before .before .before .before .enum-told .given .1 in
-    (row-by-kind _ _ is (c .before .before .node-row .ensures .0), search needs)
+    (row-by-kind _ _ _ is (c .before .before .node-row .ensures .0), search needs)
 
 returns-2 : tie.Need-returns-2
 returns-2 c =
     let is = c .before .before .before .before .before .kind .given .1 in
-    (row-by-kind _ _ is (c .before .before .node-row2 .ensures .0), search needs)
+    (row-by-kind _ _ _ is (c .before .before .node-row2 .ensures .0), search needs)
 
 pub select-row-spec : {M : Type 1} → statement M
 select-row-spec =

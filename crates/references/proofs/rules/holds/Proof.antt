@@ -2,7 +2,7 @@
 use mathlib.Core.Path.{ap, _∙_}
 use lib.Dec.{ltb, leb}
 use borrow.Author.Needs.{needs}
-use Rattle.lifting.specs.Limits.{maxOpcode}
+use Rattle.lifting.specs.Limits.{maxOpcode, maxMergeControl}
 use Rattle.lifting.specs.References.{immFits}
 use Rattle.references.specs.Test.{opcodeFits, namedTest, calleeTest, opInstTest}
 use Rattle.references.proofs.Laws.{rule-as, rule-in}
@@ -33,14 +33,17 @@ row-const-opcode-requires c κs = let s = c .before .before .before in rule-in (
 imm-requires : tie.Need-imm-requires
 imm-requires c κs = let s = c .before .before .before in rule-in (s .pre .0) (c .enum-told7 .given .1) (s .pre .1)
 
+row-control-requires : tie.Need-row-control-requires
+row-control-requires c κs = let s = c .before .before .before in rule-in (s .pre .0) (c .enum-told8 .given .1) (s .pre .1)
+
 row-opcode-requires : tie.Need-row-opcode-requires
-row-opcode-requires c κs = let s = c .before .before .before in rule-in (s .pre .0) (c .enum-told8 .given .1) (s .pre .1)
+row-opcode-requires c κs = let s = c .before .before .before in rule-in (s .pre .0) (c .enum-told9 .given .1) (s .pre .1)
 
 row-op-kind-requires-2 : tie.Need-row-op-kind-requires-2
-row-op-kind-requires-2 c κs = let s = c .before .before .before in rule-in (s .pre .0) (c .enum-told9 .given .1) (s .pre .1)
+row-op-kind-requires-2 c κs = let s = c .before .before .before in rule-in (s .pre .0) (c .enum-told10 .given .1) (s .pre .1)
 
 row-op-first-requires-2 : tie.Need-row-op-first-requires-2
-row-op-first-requires-2 c κs = let s = c .before .before .before .before in rule-in (s .pre .0) (c .before .enum-told9 .given .1) (s .pre .1)
+row-op-first-requires-2 c κs = let s = c .before .before .before .before in rule-in (s .pre .0) (c .before .enum-told10 .given .1) (s .pre .1)
 
 returns : tie.Need-returns
 returns c = rule-as _ _ (c .before .before .enum-told .given .1) (c .named .ensures ∙ ap (namedTest _) (c .before .value .ensures))
@@ -64,10 +67,13 @@ returns-7 : tie.Need-returns-7
 returns-7 c = rule-as _ _ (c .before .before .enum-told7 .given .1) (c .imm-fits .ensures ∙ ap immFits (c .before .imm .ensures))
 
 returns-8 : tie.Need-returns-8
-returns-8 c = rule-as _ _ (c .before .before .enum-told8 .given .1) (c .opcode-fits .ensures ∙ ap opcodeFits (c .before .row-opcode .ensures))
+returns-8 c = rule-as _ _ (c .before .enum-told8 .given .1) (ap (λ n. leb n maxMergeControl) (c .row-control .ensures))
 
 returns-9 : tie.Need-returns-9
-returns-9 c = rule-as _ _ (c .before .before .before .enum-told9 .given .1) (c .op-inst-fits .ensures ∙ (λ i. opInstTest (c .before .before .row-op-kind2 .ensures i) (c .before .row-op-first2 .ensures i)))
+returns-9 c = rule-as _ _ (c .before .before .enum-told9 .given .1) (c .opcode-fits .ensures ∙ ap opcodeFits (c .before .row-opcode .ensures))
+
+returns-10 : tie.Need-returns-10
+returns-10 c = rule-as _ _ (c .before .before .before .enum-told10 .given .1) (c .op-inst-fits .ensures ∙ (λ i. opInstTest (c .before .before .row-op-kind2 .ensures i) (c .before .row-op-first2 .ensures i)))
 
 pub holds-spec : {M : Type 1} → statement M
 holds-spec =
@@ -92,6 +98,8 @@ holds-spec =
     imm-requires
     (λ c κs. search needs)
     (λ c. search needs)
+    row-control-requires
+    (λ c. search needs)
     row-opcode-requires
     (λ c κs. search needs)
     (λ c. search needs)
@@ -106,4 +114,5 @@ holds-spec =
     returns-6
     returns-7
     returns-8
-    returns-9)
+    returns-9
+    returns-10)
