@@ -3,7 +3,8 @@
 A case that has no outputs at all, and whose last node is itself an exit, may stand beside a select with outs: it is let off, and phis take no pair
 from it. Every other unequal count is refusal 6 as before.
 """
-from texts import CONST, EMPTY, HEAD, START, SWITCH, long_list, numbers, region, way
+import texts
+from texts import CONST, EMPTY, HEAD, START, SWITCH, long_list, loop, numbers, region, way
 from vectors import HIGHEST_ID, let_off
 
 FIRST = 10
@@ -19,19 +20,15 @@ ENDS = region(nodes=' 1')
 NEVER = HEAD + '(const 5 41)\n'
 
 
-def select(cases, outs=OUT, kind='bool', value='(c 0)'):
-    return f'(select {kind} {value} (cases{numbers(cases)}) (outs{outs}))\n'
-
-
-def loop(body, inits='', repeat='(c 0)'):
-    return f'(loop {body} {repeat} (init{inits}))\n'
+def select(cases, outs=OUT, **how):
+    return texts.select(cases, outs, **how)
 
 
 def beside(cases, nodes, kind='bool', outs=OUT, before='', after='', out=' (n 0 0)', regions='', more='', start=START):
     """A text about node 0, a select over these cases. Region 0 holds it between the nodes `before` and `after`, and gives `out`; further regions
     follow the cases, further nodes the select, and then what else the text has."""
     lines = region(nodes=f'{before} 0{after}', out=out) + ''.join(cases) + regions
-    return start + lines + select(range(1, len(cases) + 1), outs, kind) + nodes + more
+    return start + lines + select(range(1, len(cases) + 1), outs, kind=kind) + nodes + more
 
 
 def some_and_all():
@@ -165,15 +162,15 @@ def refused():
         (' 1 2 3', EXIT * 2 + BLOCK, '', ''),
         (' 2 1', BLOCK + EXIT, '', ''),
         (' 1 2', EXIT + loop(3), EMPTY, ''),
-        (' 1 2', EXIT + select([3], '', SWITCH), EMPTY, ''),
+        (' 1 2', EXIT + select([3], '', kind=SWITCH), EMPTY, ''),
         # there is none, but an op of that opcode, a block, nothing
         (' 1', HOLDS, '', '(op 0 0 (inst 252))\n'),
         (' 1', BLOCK, '', ''),
         ('', '', '', ''),
         # a select whose cases all exit, behind an exit too; one with a case that does; one whose case is let off
-        (' 1', select([3], '', SWITCH) + EXIT, two, ''),
+        (' 1', select([3], '', kind=SWITCH) + EXIT, two, ''),
         (' 1', select([3, 4], '') + EXIT * 2, two + three, ''),
-        (' 1 2', EXIT + select([3], '', SWITCH) + EXIT, three, ''),
+        (' 1 2', EXIT + select([3], '', kind=SWITCH) + EXIT, three, ''),
         (' 1', select([3, 4], '') + EXIT, two + EMPTY, ''),
         (' 1', select([3], kind=SWITCH) + EXIT, two, ''),
         # a loop whose body exits, behind an exit too

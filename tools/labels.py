@@ -3,7 +3,7 @@
 A `bool` ctrl line may not have them, reached or not; a selection by an instruction may. So a text that nothing else refuses is refused by 13
 with `bool`, and with `(inst 251)` in the same place it isn't.
 """
-from texts import CONST, EMPTY, HEAD, RETURN, START, SWITCH, long_list, region, way
+from texts import CONST, EMPTY, HEAD, RETURN, START, SWITCH, long_list, loop, region, select, way
 from vectors import HIGHEST_ID
 
 INPUT = region(ins=' (0 4)')
@@ -62,8 +62,8 @@ def different():
     # an instruction's equal targets beside a `bool` line's
     yield FIRST, START + EMPTY * 3 + way(0, SWITCH, [1, 1, 2, 2]) + way(1, 'bool', [2, 1]) + way(2, SWITCH, [1, 1]), 0
     # a select is no ctrl line: equal cases are a child of two places
-    yield FIRST, START + region(nodes=' 0') + EMPTY + '(select bool (c 0) (cases 1 1) (outs))\n', 5
-    yield FIRST, START + region(nodes=' 0') + EMPTY * 2 + '(select bool (c 0) (cases 1 1) (outs))\n' + way(0, 'bool', [2, 2]) + way(2, 'return'), 5
+    yield FIRST, START + region(nodes=' 0') + EMPTY + select([1, 1]), 5
+    yield FIRST, START + region(nodes=' 0') + EMPTY * 2 + select([1, 1]) + way(0, 'bool', [2, 2]) + way(2, 'return'), 5
 
 
 def earlier():
@@ -81,7 +81,7 @@ def earlier():
     yield START + CONST + EMPTY * 2 + way(0, 'bool', [1, 1]) + RETURN, 4
     # a node stands nowhere; a region is a child of itself
     yield START + EMPTY * 2 + '(block)\n' + way(0, 'bool', [1, 1]) + RETURN, 5
-    yield START + EMPTY * 2 + region(nodes=' 0') + '(loop 2 (c 0) (init))\n' + way(0, 'bool', [1, 1]) + RETURN, 5
+    yield START + EMPTY * 2 + region(nodes=' 0') + loop(2) + way(0, 'bool', [1, 1]) + RETURN, 5
     # no value for an input; a value too many; an output of region 0
     yield START + EMPTY + INPUT + way(0, 'bool', [1, 1]) + RETURN, 6
     yield START + EMPTY * 2 + way(0, 'bool', [1, 1], vals=' (1 (c 0))') + RETURN, 6
@@ -89,8 +89,7 @@ def earlier():
     # region 0 twice, reached and not; a child twice
     yield START + EMPTY + way(0, 'bool', [0, 0]), 7
     yield START + EMPTY * 2 + way(0, 'return') + way(1, 'bool', [0, 0]), 7
-    select = '(select (inst 251) (c 0) (cases 1) (outs))\n'
-    yield START + region(nodes=' 0') + EMPTY + select + way(0, 'bool', [1, 1]), 7
+    yield START + region(nodes=' 0') + EMPTY + select([1], kind=SWITCH) + way(0, 'bool', [1, 1]), 7
     # three targets, two or all of them equal
     ends = RETURN + way(2, 'return')
     for to in [1, 1, 2], [1, 2, 2], [1, 2, 1], [1, 1, 1]:

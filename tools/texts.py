@@ -22,6 +22,14 @@ def region(ins='', nodes='', out=''):
     return f'(region (in{ins}) (nodes{nodes}) (out{out}))\n'
 
 
+def select(cases, outs='', kind='bool', value='(c 0)', control=0):
+    return f'(select {kind} {value} (cases{numbers(cases)}) (outs{outs}) {control})\n'
+
+
+def loop(body, inits='', repeat='(c 0)', control=0):
+    return f'(loop {body} {repeat} (init{inits}) {control})\n'
+
+
 def way(region, kind, to=(), attrs=0, vals='', ins=None):
     """A ctrl line, with constant 0 for input where its kind needs one and none are given."""
     if ins is None:
@@ -37,7 +45,7 @@ def long_list(held='', regions='', nodes='', ctrls=''):
     """120 loops with four inputs each and a block of 512 ops, whose list has over 16,384 words. To region 0's nodes, 0 to 120, come those `held`; to
     regions, 0 to 120, and to nodes those given, and then ctrl lines."""
     body = region(ins=items('(0 4)', 4), out=items('(c 0)', 4))
-    loops = ''.join(f"(loop {i} (c 0) (init{items('(c 0)', 4)}))\n" for i in range(1, 121))
+    loops = ''.join(loop(i, items('(c 0)', 4)) for i in range(1, 121))
     ops = '(op 0 0 (inst 1 (0 5 0)))\n' * 250 + '(op 0 0 (inst 1))\n' * 262
     lines = region(nodes=items('{}', 121) + held) + body * 120 + regions
     return START + lines + loops + f"(block{items('{}', 512)})\n" + nodes + ops + ctrls

@@ -11,9 +11,16 @@ EQUAL = re.compile(rb'^\(ctrl [0-9]+ [0-9]+ bool .* \(to ([0-9]+) \1\) \(vals', 
 # A region's nodes and outputs, a node, and the cases of a select with outs, in a text that refusals 1 to 4 let pass.
 REGION = re.compile(rb'^\(region .* \(nodes([ 0-9]*)\) \(out(.*)\)\)$', re.MULTILINE)
 NODE = re.compile(rb'^\((?:block|select|loop|exit)\b.*$', re.MULTILINE)
-SELECT = re.compile(rb'\(select .* \(cases([ 0-9]*)\) \(outs .+\)\)')
+SELECT = re.compile(rb'\(select .* \(cases([ 0-9]*)\) \(outs .+\) [0-9]+\)')
+# A select or loop as document 01 has it, which ends in a list.
+UNNUMBERED = re.compile(rb'^(\((?:select|loop) .*\))\)$', re.MULTILINE)
 # The refusals that come before 13.
 EARLIER = re.compile(rb'\(refused [1-8]\)\n')
+
+
+def numbered(case):
+    """A case of document 01 with the control number 0 on each select and loop (document 02, W4)."""
+    return UNNUMBERED.sub(rb'\1 0)', case)
 
 
 def equal_targets(text):
@@ -30,7 +37,7 @@ def let_off(text):
 
 
 def answered(case, answer):
-    """What an answer by document 01 becomes by the requests of document 02 that are in force."""
+    """What an answer by document 01 becomes by the requests of document 02 that are in force. A control number of 0 changes none."""
     if EARLIER.fullmatch(answer):
         # where a case is let off the rest of the text would have to be judged anew, and no vector has one
         assert answer != b'(refused 6)\n' or not let_off(case)
@@ -41,10 +48,16 @@ def answered(case, answer):
     return b'(refused 9)\n' if above else answer
 
 
+def given(folder, start=''):
+    """The inputs of a batch, each with the answer that the folder holds."""
+    return zip(*(split(read(os.path.join(folder, start + name))) for name in ['cases.batch', 'answers.batch']), strict=True)
+
+
 def vectors(folder):
-    """The inputs of a folder's cases.batch, each with its answer; answers.batch holds document 01's."""
-    cases, answers = (split(read(os.path.join(folder, name))) for name in ['cases.batch', 'answers.batch'])
-    return [(case, answered(case, answer)) for case, answer in zip(cases, answers, strict=True)]
+    """The inputs of a folder's cases.batch, each with its answer; answers.batch holds document 01's. Then those of the folder `requests` in it, which have
+    the requests in force."""
+    cases = [(numbered(case), answer) for case, answer in given(folder)]
+    return [(case, answered(case, answer)) for case, answer in cases] + [*given(os.path.join(folder, 'requests'), 'lift.')]
 
 
 def rows():

@@ -1,7 +1,7 @@
 //! What a case shows: a name for each kind of thing that stands in its text, its blocks or its
 //! list. The reference tells; the answers themselves are the oracle's.
 
-use refer::list::{Block, Merge, Point, kept, use_counts, visits};
+use refer::list::{Block, Merge, MergeKind, Point, kept, use_counts, visits};
 use refer::read::*;
 use std::collections::{BTreeSet, HashMap};
 
@@ -137,9 +137,10 @@ impl Found<'_> {
             }
         }
         for node in &func.nodes {
+            self.control(node);
             match node {
                 Node::Block { ops } => self.add(format!("block of {} ops", size(ops.len()))),
-                Node::Select { kind, scrutinee, cases, outs } => {
+                Node::Select { kind, scrutinee, cases, outs, .. } => {
                     let name = node_name(node);
                     self.add(format!("{name}, {} cases", size(cases.len())));
                     self.add(format!("{name}, {} outs", size(outs.len())));
@@ -148,7 +149,7 @@ impl Found<'_> {
                         self.inst("select", inst);
                     }
                 }
-                Node::Loop { body, repeat, inits } => {
+                Node::Loop { body, repeat, inits, .. } => {
                     self.add(format!("loop, {} inputs", size(inits.len())));
                     self.uses("repeat condition", &[*repeat]);
                     self.uses("init", inits);
@@ -172,6 +173,17 @@ impl Found<'_> {
                     self.inst("exit", inst);
                 }
             }
+        }
+    }
+
+    /// The number of a select or loop, and those of its children beside it.
+    fn control(&mut self, node: &Node) {
+        let func = self.func;
+        let Some(outer) = node.control() else { return };
+        self.add(format!("{} of control {outer}", node_name(node)));
+        let held = node.children().iter().flat_map(|r| &func.regions[*r as usize].nodes);
+        for inner in held.filter_map(|n| func.nodes[*n as usize].control()) {
+            self.add(format!("control {inner} in control {outer}"));
         }
     }
 
@@ -330,11 +342,16 @@ impl Found<'_> {
             let kind = point_name(block.point);
             self.add(format!("kept {kind} of {} phis", size(block.phis.len())));
             self.add(format!("kept {kind} of {} ops", size(block.ops.len())));
-            match block.terminator.merge {
-                Some(Merge::Selection(_)) => self.add(format!("selection merge in a {kind}")),
-                Some(Merge::Loop(..)) => self.add(format!("loop merge in a {kind}")),
-                None => self.add(format!("{kind} ends in {}", ending(block))),
-            }
+            self.add(match &block.terminator.merge {
+                Some(Merge { kind: merge, control }) => {
+                    let name = match merge {
+                        MergeKind::Selection(_) => "selection",
+                        MergeKind::Loop(..) => "loop",
+                    };
+                    format!("{name} merge of control {control} in a {kind}")
+                }
+                None => format!("{kind} ends in {}", ending(block)),
+            });
             let edges: Vec<&Block> =
                 blocks.iter().filter(|b| b.terminator.targets.contains(&block.point)).collect();
             self.add(format!("kept {kind} with {} edges in", size(edges.len())));

@@ -28,8 +28,8 @@ const POOL: [(&str, u64); 6] = [
 ];
 const SAMPLED: [(&str, usize); 2] = [("skeletons", 7), ("graphs", 101)];
 
-/// Document 01's starred texts that are accepted, with W3 and W7 of document 02; the one with two
-/// equal targets is by an instruction, as `bool` may not have them any more.
+/// Document 01's starred texts that are accepted, with W3, W4 and W7 of document 02; the one with
+/// two equal targets is by an instruction, as `bool` may not have them any more.
 const STARRED: &str = include_str!("../starred.batch");
 
 /// The cases taken so far, and how often each thing is shown.

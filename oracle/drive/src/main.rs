@@ -3,9 +3,10 @@
 //! Reads cases, each ended by a line `%%`, and gives every one to the library, more than once and
 //! with slices of several lengths, all filled with noise. Looked at are the refusal or the list,
 //! the word count, which after 11 is what the list wants, the next id, and every word of the three
-//! slices after the call; of a call that only reads, both scratch slices. The list must be the
+//! slices after the call; of a call that only reads, both scratch slices. The list must be that of
+//! the reference `refer`, and with the control numbers of merges cleared (document 02, W4) the
 //! Rust's, refusal 10 stand where the Rust panics, and the other refusals, which the Rust does not
-//! have, where the reference `refer` has them.
+//! have, where the reference has them.
 //!
 //! Prints the counts, also of the lists whose text has a case let off (document 02, W2), and the
 //! shortest differences. A first line is the program `lift`'s and not the library's, so cases with
@@ -14,6 +15,7 @@
 mod call;
 
 use call::Library;
+use refer::list::Line;
 use refer::read::Cursor;
 use sighvona::{MAX_WORDS, SCRATCH_WORDS};
 use std::collections::BTreeMap;
@@ -84,7 +86,7 @@ fn judge(library: &mut Library, case: &[u8]) -> Result<String, String> {
     let Some(first) = cursor.first() else { return Ok("a bad first line".to_owned()) };
     let text = cursor.0;
     let (full, more) = (SCRATCH_WORDS, SCRATCH_WORDS + 1 + case.len() % 300);
-    let expected = expected(case)?;
+    let expected = expected(case, first, text)?;
     // Refusal 8 comes before all else, and 11 after all else.
     for lengths in [[full - 1, full, full], [full, full - 1, full], [0, more, 0]] {
         library.lift(text, first, lengths, &Expected::Refused(8))?;
@@ -119,7 +121,7 @@ fn has_case_let_off(case: &[u8]) -> bool {
 }
 
 /// What the Rust and the reference say, if they agree with each other.
-fn expected(case: &[u8]) -> Result<Expected, String> {
+fn expected(case: &[u8], first: u32, text: &[u8]) -> Result<Expected, String> {
     let number = match refer::answer(case) {
         refer::Answer::List { .. } => 0,
         refer::Answer::Refused(number) => number,
@@ -130,23 +132,37 @@ fn expected(case: &[u8]) -> Result<Expected, String> {
     match (number, spirt::text::answer(case)) {
         (10, spirt::text::Answer::Panicked) => Ok(Expected::Refused(10)),
         (0 | 11, spirt::text::Answer::List { insts, next }) => {
-            let words: Vec<u32> = insts.iter().flat_map(words).collect();
+            let func = refer::parse(text).expect("only a text that is read has a list");
+            let (lines, ours) = refer::list::list(&func, first);
+            let words: Vec<u32> = lines.iter().flat_map(words).collect();
+            let theirs = insts.into_iter().map(line);
+            if lines.into_iter().map(Line::cleared).ne(theirs) || ours != next {
+                return Err("the reference and the Rust have other lists or next ids".to_owned());
+            }
             let next = u32::try_from(next).map_err(|_| "the Rust's next id has over 32 bits")?;
             match words.len() > SCRATCH_WORDS {
                 long if long == (number == 11) => Ok(Expected::List { words, next }),
-                _ => Err("the reference and the Rust have lists of other lengths".to_owned()),
+                _ => Err("the reference refuses a list by its length, or not".to_owned()),
             }
         }
         _ => Err(format!("the reference says {number}, and the Rust something else")),
     }
 }
 
+/// An instruction of the Rust as the reference has it.
+fn line(inst: spirt::lift::Inst) -> Line {
+    let spirt::lift::Inst { opcode, attrs, result_type, result, imms, ids } = inst;
+    let imm = |(kind, operand, word): (u32, u16, u32)| [kind, operand.into(), word];
+    let imms = imms.into_iter().map(imm).collect();
+    Line { opcode: opcode.into(), attrs, result_type, result, imms, ids }
+}
+
 /// An instruction's words in document 01's list.
-fn words(inst: &spirt::lift::Inst) -> Vec<u32> {
-    let mut words = vec![inst.opcode.into(), inst.attrs, inst.result_type, inst.result];
-    words.push(inst.imms.len() as u32);
-    words.extend(inst.imms.iter().flat_map(|&(kind, operand, word)| [kind, operand.into(), word]));
-    words.push(inst.ids.len() as u32);
-    words.extend(&inst.ids);
+fn words(line: &Line) -> Vec<u32> {
+    let mut words = vec![line.opcode, line.attrs, line.result_type, line.result];
+    words.push(line.imms.len() as u32);
+    words.extend(line.imms.iter().flatten());
+    words.push(line.ids.len() as u32);
+    words.extend(&line.ids);
     words
 }

@@ -52,7 +52,7 @@ fn number_level(rng: &mut Rng, bytes: &mut Vec<u8>) {
     }
     let place = rng.pick(&places);
     let old: u64 = std::str::from_utf8(&bytes[place.clone()]).unwrap().parse().unwrap_or(0);
-    let new = match rng.below(12) {
+    let new = match rng.below(14) {
         0 => "0".to_owned(),
         1 | 2 => (old + 1).to_string(),
         3 | 4 => old.saturating_sub(1).to_string(),
@@ -61,6 +61,12 @@ fn number_level(rng: &mut Rng, bytes: &mut Vec<u8>) {
         8 => rng.pick(&[65_535, 65_536, HIGHEST_ID, HIGHEST_ID + 1, HIGHEST_ID + 2]).to_string(),
         9 => rng.pick(&[u64::from(u32::MAX), 1 << 32, u64::MAX]).to_string(),
         10 => format!("0{old}"),
+        11 => format!("{old} {old}"),
+        12 => {
+            // A number goes with the space before it.
+            bytes.splice(place.start.saturating_sub(1)..place.end, []);
+            return;
+        }
         _ => {
             let other = rng.pick(&places);
             String::from_utf8_lossy(&bytes[other]).into_owned()

@@ -2,6 +2,7 @@
 
 use crate::print::{Case, ctrl, func, inst, region};
 use refer::read::*;
+use refer::refuse::HIGHEST_CONTROL;
 
 /// What a skeleton's blocks hold and what its conditions are.
 #[derive(Clone, Copy)]
@@ -81,11 +82,13 @@ fn plant(func: &mut Func, forest: &[Tree], filling: Filling) -> u32 {
             Tree::Block => Node::Block { ops: vec![] },
             Tree::Exit => Node::Exit { inst: inst(252), values: vec![] },
             Tree::Loop(inner) => {
-                Node::Loop { body: plant(func, inner, filling), repeat: c, inits: vec![] }
+                let body = plant(func, inner, filling);
+                Node::Loop { body, repeat: c, inits: vec![], control: 0 }
             }
             Tree::Select(a, b) => {
                 let cases = vec![plant(func, a, filling), plant(func, b, filling)];
-                Node::Select { kind: Selection::Bool, scrutinee: c, cases, outs: vec![] }
+                let (kind, outs) = (Selection::Bool, vec![]);
+                Node::Select { kind, scrutinee: c, cases, outs, control: 0 }
             }
         };
     }
@@ -188,10 +191,27 @@ pub fn all_graphs() -> impl Iterator<Item = Case> {
         .flat_map(|(roots, inputs, ways)| graphs(roots, inputs, ways))
 }
 
-/// Every skeleton up to 4 nodes: as it is, with loops that never end, and with ops.
+/// The case with each other choice of control numbers than 0 for all.
+fn numbered(case: Case) -> impl Iterator<Item = Case> {
+    let choices = HIGHEST_CONTROL + 1;
+    let count = case.func.nodes.iter().filter_map(Node::control).count();
+    (1..choices.pow(count as u32)).map(move |mut choice| {
+        let mut func = case.func.clone();
+        for control in func.nodes.iter_mut().filter_map(Node::control_mut) {
+            *control = choice % choices;
+            choice /= choices;
+        }
+        Case { first: case.first, func }
+    })
+}
+
+/// Every skeleton up to 4 nodes, without control numbers: as it is, with loops that never end, and
+/// with ops. Then every one up to 3 nodes with every choice of control numbers.
 pub fn all_skeletons() -> impl Iterator<Item = Case> {
-    [(43, false), (41, false), (43, true)]
+    let plain = Filling { opcode: 43, ops: false };
+    [plain, Filling { opcode: 41, ..plain }, Filling { ops: true, ..plain }]
         .into_iter()
-        .flat_map(|(opcode, ops)| (0..5).map(move |count| (count, Filling { opcode, ops })))
+        .flat_map(|filling| (0..5).map(move |count| (count, filling)))
         .flat_map(|(count, filling)| skeletons(count, filling))
+        .chain((0..4).flat_map(move |count| skeletons(count, plain)).flat_map(numbered))
 }

@@ -3,6 +3,7 @@
 use crate::print::{Case, ctrl, func, inst, region};
 use refer::HIGHEST_ID as H;
 use refer::read::*;
+use refer::refuse::HIGHEST_CONTROL;
 
 const C: Value = Value::Const(0);
 const D: Decl = Decl { attrs: 0, ty: 2 };
@@ -52,6 +53,7 @@ fn select(cases: u32, outs: usize) -> Func {
         scrutinee: C,
         cases: (1..=cases).collect(),
         outs: vec![D; outs],
+        control: 0,
     };
     func
 }
@@ -68,7 +70,8 @@ fn loops(depth: u32, inputs: usize, list: Vec<Op>) -> Func {
             outputs: (0..count as u32).map(|k| Value::Input(i, (k + 1) % count as u32)).collect(),
         });
         if i < depth {
-            func.nodes.push(Node::Loop { body: i + 1, repeat: C, inits: vec![C; inputs] });
+            let inits = vec![C; inputs];
+            func.nodes.push(Node::Loop { body: i + 1, repeat: C, inits, control: 0 });
         }
     }
     if !list.is_empty() {
@@ -160,6 +163,13 @@ pub fn limits() -> Vec<String> {
     for cases in [126, 127, 128] {
         all.push(case(select(cases, 0)));
     }
+    for number in [HIGHEST_CONTROL, HIGHEST_CONTROL + 1, u32::MAX] {
+        for mut func in [select(2, 1), loops(127, 1, vec![])] {
+            let numbers = func.nodes.iter_mut().filter_map(Node::control_mut);
+            numbers.for_each(|control| *control = number);
+            all.push(case(func));
+        }
+    }
     for count in [127, 128, 129] {
         all.push(case(blocks(count)));
         all.push(case(row(count, 1, false)));
@@ -245,7 +255,7 @@ fn unbounded() -> Vec<String> {
     ));
     let selects = "(region (in) (nodes 0) (out))\n(region (in) (nodes) (out))\n\
                    (select (inst 251) (c 0) (cases";
-    all.extend(ends(selects, " 1", 15_000, " 2", ") (outs))\n"));
+    all.extend(ends(selects, " 1", 15_000, " 2", ") (outs) 0)\n"));
     let entries = "(region (in) (nodes) (out))\n(region (in) (nodes) (out))\n\
                    (ctrl 0 0 branch (ins) (to 1) (vals";
     let end = "))\n(ctrl 1 0 return (ins) (to) (vals))\n";

@@ -39,12 +39,12 @@ impl Change<'_> {
         let by_bool = cases.len() == 2 && self.rng.chance(50);
         let kind = if by_bool { Selection::Bool } else { Selection::Inst(inst(251)) };
         let scrutinee = self.constants(1)[0];
-        self.node(Node::Select { kind, scrutinee, cases, outs: vec![] })
+        self.node(Node::Select { kind, scrutinee, cases, outs: vec![], control: 0 })
     }
 
     fn repeat(&mut self, body: u32, inits: Vec<Value>) -> u32 {
         let repeat = self.constants(1)[0];
-        self.node(Node::Loop { body, repeat, inits })
+        self.node(Node::Loop { body, repeat, inits, control: 0 })
     }
 
     /// Puts a node first in one of so many regions, so that what stands last in it stays there.

@@ -110,13 +110,17 @@ impl Display for Case {
         for node in &func.nodes {
             match node {
                 Node::Block { ops } => writeln!(f, "(block{})", items(ops))?,
-                Node::Select { kind, scrutinee, cases, outs } => {
+                Node::Select { kind, scrutinee, cases, outs, control } => {
                     let (kind, scrutinee) = (Shown(kind), Shown(*scrutinee));
                     let (cases, outs) = (items(cases), decls(outs));
-                    writeln!(f, "(select {kind} {scrutinee} (cases{cases}) (outs{outs}))")?;
+                    writeln!(
+                        f,
+                        "(select {kind} {scrutinee} (cases{cases}) (outs{outs}) {control})"
+                    )?;
                 }
-                Node::Loop { body, repeat, inits } => {
-                    writeln!(f, "(loop {body} {} (init{}))", Shown(*repeat), values(inits))?;
+                Node::Loop { body, repeat, inits, control } => {
+                    let (repeat, inits) = (Shown(*repeat), values(inits));
+                    writeln!(f, "(loop {body} {repeat} (init{inits}) {control})")?;
                 }
                 Node::Exit { inst, values: list } => {
                     writeln!(f, "(exit {}{})", Shown(inst), values(list))?;

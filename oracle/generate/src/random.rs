@@ -5,6 +5,7 @@
 //! then some values are replaced by any that the text has, and all numbers are shuffled.
 
 use crate::near::near_miss;
+use crate::numbers::is_nested;
 use crate::print::{self, Case};
 use crate::rng::Rng;
 use refer::Answer;
@@ -115,6 +116,16 @@ pub fn near_ended(rng: &mut Rng, shape: Shape) -> Case {
 fn ended_shape(rng: &mut Rng, shape: Shape) -> Shape {
     let (wild, unset) = rng.pick(&[(0, false), (0, false), (0, false), (15, false), (25, true)]);
     Shape { exits: 8, wild, unset, ended: 45, ..shape }
+}
+
+/// A text with a select or loop that stands in another.
+pub fn nested(rng: &mut Rng, shape: Shape) -> Case {
+    loop {
+        let case = body(rng, shape);
+        if is_nested(&case.func) {
+            return case;
+        }
+    }
 }
 
 /// `OpKill`.
@@ -316,7 +327,7 @@ impl Maker<'_> {
         for i in 0..outs as u32 {
             self.give(visible, Value::Out(number, i));
         }
-        Node::Select { kind, scrutinee, cases, outs: self.decls(outs) }
+        Node::Select { kind, scrutinee, cases, outs: self.decls(outs), control: 0 }
     }
 
     /// Whether a case ends in an exit and is to have no outputs; some get the exit here.
@@ -357,7 +368,7 @@ impl Maker<'_> {
         } else {
             self.value(&inner)
         };
-        Node::Loop { body, repeat, inits }
+        Node::Loop { body, repeat, inits, control: 0 }
     }
 
     fn roots(&mut self) {
@@ -540,7 +551,7 @@ fn renumber(rng: &mut Rng, func: &mut Func) {
                 value(scrutinee);
                 cases.iter_mut().for_each(|r| map(&regions, r));
             }
-            Node::Loop { body, repeat, inits } => {
+            Node::Loop { body, repeat, inits, .. } => {
                 map(&regions, body);
                 value(repeat);
                 inits.iter_mut().for_each(value);

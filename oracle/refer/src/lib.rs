@@ -1,5 +1,5 @@
-//! A plain reference of document 01 with requests W2, W3 and W7 of document 02, written from these
-//! papers: what `lift` prints for any input.
+//! A plain reference of document 01 with requests W2, W3, W4 and W7 of document 02, written from
+//! these papers: what `lift` prints for any input.
 //!
 //! It shares no code with the oracle. Terminators are what 'Running the regions and the blocks'
 //! needs them to be, and the comparison with the oracle tells whether the Rust's are the same.

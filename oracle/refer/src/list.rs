@@ -13,7 +13,14 @@ pub enum Point {
 use Point::*;
 
 #[derive(Clone, Debug)]
-pub enum Merge {
+pub struct Merge {
+    pub kind: MergeKind,
+    /// The node's number.
+    pub control: u32,
+}
+
+#[derive(Clone, Debug)]
+pub enum MergeKind {
     Selection(Point),
     Loop(Point, Point),
 }
@@ -33,9 +40,9 @@ pub struct Terminator {
 impl Terminator {
     /// None, a selection's end, or where a loop is left and where its way back begins.
     fn merge_labels(&self) -> Vec<Point> {
-        match self.merge {
-            Some(Merge::Selection(exit)) => vec![exit],
-            Some(Merge::Loop(exit, again)) => vec![exit, again],
+        match self.merge.as_ref().map(|merge| &merge.kind) {
+            Some(MergeKind::Selection(exit)) => vec![*exit],
+            Some(MergeKind::Loop(exit, again)) => vec![*exit, *again],
             None => vec![],
         }
     }
@@ -59,6 +66,9 @@ pub struct Block {
     pub ops: Vec<u32>,
     pub terminator: Terminator,
 }
+
+/// `OpLoopMerge` and `OpSelectionMerge`.
+pub const MERGES: [u32; 2] = [246, 247];
 
 /// One instruction of the list.
 #[derive(Debug, PartialEq, Eq)]
@@ -189,12 +199,13 @@ impl<'a> Walk<'a> {
         let mut out_phis = vec![];
         match &func.nodes[node as usize] {
             Node::Block { ops } => self.visit(NodeEntry(node), vec![], ops, branch(exit)),
-            Node::Select { kind, scrutinee, cases, outs } => {
+            Node::Select { kind, scrutinee, cases, outs, control } => {
+                let merge = Merge { kind: MergeKind::Selection(exit), control: *control };
                 let terminator = Terminator {
                     inst: selection(kind),
                     inputs: vec![*scrutinee],
                     targets: cases.iter().map(|case| RegionEntry(*case)).collect(),
-                    merge: Some(Merge::Selection(exit)),
+                    merge: Some(merge),
                     ..branch(exit)
                 };
                 self.visit(NodeEntry(node), vec![], &[], terminator);
@@ -207,9 +218,10 @@ impl<'a> Walk<'a> {
                     .map(|(i, decl)| Phi { decl: *decl, sets: Value::Out(node, i), init: None })
                     .collect();
             }
-            Node::Loop { body, repeat, inits } => {
+            Node::Loop { body, repeat, inits, control } => {
                 let back = NodeEntry(node);
-                let merge = Some(Merge::Loop(exit, RegionExit(*body)));
+                let kind = MergeKind::Loop(exit, RegionExit(*body));
+                let merge = Some(Merge { kind, control: *control });
                 let terminator = Terminator { merge, ..branch(RegionEntry(*body)) };
                 self.visit(back, self.input_phis(*body, inits), &[], terminator);
                 let values = entry(back, &func.regions[*body as usize].outputs);
@@ -381,13 +393,12 @@ pub fn list(func: &Func, first: u32) -> (Vec<Line>, u64) {
             });
         }
         let Terminator { attrs, inst, inputs, targets, merge, .. } = &block.terminator;
-        let merge = match merge {
-            Some(Merge::Selection(exit)) => Some((247, 2, vec![label(exit)])),
-            Some(Merge::Loop(exit, again)) => Some((246, 3, vec![label(exit), label(again)])),
-            None => None,
-        };
-        if let Some((opcode, operand, ids)) = merge {
-            lines.push(Line { imms: vec![[0, operand, 0]], ..line(opcode, none, 0, ids) });
+        if let Some(Merge { kind, control }) = merge {
+            let (opcode, operand, ids) = match kind {
+                MergeKind::Selection(exit) => (247, 2, vec![label(exit)]),
+                MergeKind::Loop(exit, again) => (246, 3, vec![label(exit), label(again)]),
+            };
+            lines.push(Line { imms: vec![[0, operand, *control]], ..line(opcode, none, 0, ids) });
         }
         lines.push(Line {
             imms: inst.imms.clone(),
@@ -411,6 +422,16 @@ impl std::fmt::Display for Point {
             NodeEntry(node) => write!(f, "n{node}+"),
             NodeExit(node) => write!(f, "n{node}-"),
         }
+    }
+}
+
+impl Line {
+    /// As the Rust has it, which writes 0 for a merge's control number.
+    pub fn cleared(mut self) -> Self {
+        if MERGES.contains(&self.opcode) {
+            self.imms[0][2] = 0;
+        }
+        self
     }
 }
 

@@ -1,4 +1,5 @@
-//! Document 01, 'The text': the forms as data, and the reading of them.
+//! Document 01, 'The text', with the control numbers of selects and loops (document 02, W4): the
+//! forms as data, and the reading of them.
 
 #[derive(Clone, Copy, Debug, PartialEq, Eq, Hash)]
 pub enum Value {
@@ -39,8 +40,8 @@ pub enum Selection {
 #[derive(Clone, Debug)]
 pub enum Node {
     Block { ops: Vec<u32> },
-    Select { kind: Selection, scrutinee: Value, cases: Vec<u32>, outs: Vec<Decl> },
-    Loop { body: u32, repeat: Value, inits: Vec<Value> },
+    Select { kind: Selection, scrutinee: Value, cases: Vec<u32>, outs: Vec<Decl>, control: u32 },
+    Loop { body: u32, repeat: Value, inits: Vec<Value>, control: u32 },
     Exit { inst: Inst, values: Vec<Value> },
 }
 
@@ -110,6 +111,22 @@ impl Node {
         match self {
             Node::Select { outs, .. } => outs,
             _ => &[],
+        }
+    }
+
+    /// The number for its merge, if it has one (document 02, W4).
+    pub fn control(&self) -> Option<u32> {
+        match self {
+            Node::Select { control, .. } | Node::Loop { control, .. } => Some(*control),
+            Node::Block { .. } | Node::Exit { .. } => None,
+        }
+    }
+
+    /// Where that number stands.
+    pub fn control_mut(&mut self) -> Option<&mut u32> {
+        match self {
+            Node::Select { control, .. } | Node::Loop { control, .. } => Some(control),
+            Node::Block { .. } | Node::Exit { .. } => None,
         }
     }
 }
@@ -277,8 +294,9 @@ impl Cursor<'_> {
             let cases = self.items(Self::number)?;
             self.take(" (outs")?;
             let outs = self.items(Self::decl)?;
+            let control = self.spaced_number()?;
             self.take(")")?;
-            return Some(Node::Select { kind, scrutinee, cases, outs });
+            return Some(Node::Select { kind, scrutinee, cases, outs, control });
         }
         if self.at("(loop ") {
             self.take("(loop ")?;
@@ -287,8 +305,9 @@ impl Cursor<'_> {
             let repeat = self.value()?;
             self.take(" (init")?;
             let inits = self.items(Self::value)?;
+            let control = self.spaced_number()?;
             self.take(")")?;
-            return Some(Node::Loop { body, repeat, inits });
+            return Some(Node::Loop { body, repeat, inits, control });
         }
         self.take("(exit ")?;
         Some(Node::Exit { inst: self.inst()?, values: self.items(Self::value)? })

@@ -1,10 +1,12 @@
-//! Document 01, 'When there is no list', refusals 3 to 7 and the ids of 9; 6 with what W2 of
-//! document 02 lets off, and 13 of W7.
+//! Document 01, 'When there is no list', refusals 3 to 7 and the ids of 9; 4 with the numbers of
+//! document 02's W4, 6 with what W2 lets off, and 13 of W7.
 
 use crate::read::*;
 
 /// The opcodes that no INST may have.
 pub const TABLE: [u32; 15] = [12, 41, 54, 55, 56, 57, 245, 246, 247, 248, 249, 250, 253, 254, 255];
+/// The highest control number: 0 is none, 1 unroll or flatten, 2 don't (document 02, W4).
+pub const HIGHEST_CONTROL: u32 = 2;
 
 impl Func {
     /// The first of refusals 3 to 7 and 13 that holds.
@@ -144,6 +146,7 @@ impl Func {
             && !(0..self.consts.len()).any(repeats)
             && self.consts.iter().all(|(_, opcode)| *opcode <= 65_535)
             && self.insts().iter().all(inst)
+            && self.nodes.iter().filter_map(Node::control).all(|number| number <= HIGHEST_CONTROL)
     }
 
     /// How often each of `count` numbers stands in the lists.

@@ -1,6 +1,6 @@
 //! Document 01, 'Running the regions and the blocks': both runs of an accepted text, compared.
 
-use crate::list::Line;
+use crate::list::{Line, MERGES};
 use crate::mix::mixed;
 use crate::read::*;
 use std::collections::{HashMap, HashSet};
@@ -199,7 +199,8 @@ impl Regions<'_> {
                 self.left = Some(region);
                 Err(Stop::End(End::Exit(inst.clone(), values)))
             }
-            Node::Select { kind, scrutinee, cases, outs } => {
+            // No run reads a control number.
+            Node::Select { kind, scrutinee, cases, outs, control: _ } => {
                 let inputs = self.run.read(&[*scrutinee])?;
                 let case = cases[self.pick(kind, &inputs, cases.len())];
                 self.region(case)?;
@@ -209,7 +210,7 @@ impl Regions<'_> {
                 self.run.values.extend((0..).map(|i| Value::Out(node, i)).zip(values));
                 Ok(())
             }
-            Node::Loop { body, repeat, inits } => {
+            Node::Loop { body, repeat, inits, control: _ } => {
                 self.enter(*body, inits)?;
                 loop {
                     self.run.step()?;
@@ -283,7 +284,7 @@ impl Blocks<'_> {
         };
         let values = self.run.read(&phis.iter().map(paired).collect::<Vec<_>>())?;
         self.run.values.extend(phis.iter().map(|phi| phi.result).zip(values));
-        for line in lines.iter().filter(|line| ![246, 247].contains(&line.opcode)) {
+        for line in lines.iter().filter(|line| !MERGES.contains(&line.opcode)) {
             self.run.step()?;
             let called = usize::from([12, 57].contains(&line.opcode));
             let (callee, operands) = line.ids.split_at(called);

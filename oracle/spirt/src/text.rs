@@ -473,7 +473,9 @@ impl Reader<'_, '_> {
                 let insts: Vec<_> = each(insts, |op| self.op(op))?;
                 NodeKind::Block { insts: linked(&insts, data_insts)? }
             }
-            [Word("select"), kind, scrutinee, cases, outs] => {
+            // The Rust has no place for a control number, so whatever it is it goes no further.
+            [Word("select"), kind, scrutinee, cases, outs, control] => {
+                number::<u32>(control)?;
                 outputs = each(named(outs, "outs")?, |out| {
                     let List(out) = out else { return None };
                     let (attrs, ty) = self.declared(out)?;
@@ -485,11 +487,14 @@ impl Reader<'_, '_> {
                     cases: each(named(cases, "cases")?, |region| self.region(region))?,
                 }
             }
-            [Word("loop"), body, repeat_condition, inits] => NodeKind::Loop {
-                initial_inputs: self.values(named(inits, "init")?)?,
-                body: self.region(body)?,
-                repeat_condition: self.value(repeat_condition)?,
-            },
+            [Word("loop"), body, repeat_condition, inits, control] => {
+                number::<u32>(control)?;
+                NodeKind::Loop {
+                    initial_inputs: self.values(named(inits, "init")?)?,
+                    body: self.region(body)?,
+                    repeat_condition: self.value(repeat_condition)?,
+                }
+            }
             [Word("exit"), inst, inputs @ ..] => NodeKind::ExitInvocation {
                 kind: cfg::ExitInvocationKind::SpvInst(self.inst(inst)?),
                 inputs: self.values(inputs)?,
