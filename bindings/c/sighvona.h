@@ -15,7 +15,7 @@
 
 /* The version of this header, and the number of it that `sighvona_version` gives for the library's. Macros, so that #if can ask. */
 #define SIGHVONA_VERSION_MAJOR 0
-#define SIGHVONA_VERSION_MINOR 5
+#define SIGHVONA_VERSION_MINOR 6
 #define SIGHVONA_VERSION_PATCH 0
 #define SIGHVONA_VERSION (SIGHVONA_VERSION_MAJOR * 65536u + SIGHVONA_VERSION_MINOR * 256u + SIGHVONA_VERSION_PATCH)
 
@@ -46,7 +46,7 @@ enum sighvona_answer {
     SIGHVONA_LIMITS = 3,
     /* a reference names nothing (a (d I) whose type is 0, an (n N I) that is no select's output); an id is 0 where 0 has no meaning; a const
      * id repeats; an opcode or operand kind is over 65,535, an operand kind 0, or an immediate kind over 2; an INST's opcode is one that the
-     * lifter gives itself */
+     * lifter gives itself; a select's or loop's control number is over 2 */
     SIGHVONA_REFERENCES = 4,
     /* a node doesn't stand exactly once in all regions' lists, or an op exactly once in all blocks' lists; a region is child of two places,
      * or of itself, directly or through others; region 0 is a child; without ctrl lines, another region is no child */

@@ -23,10 +23,14 @@
 #define TWICE(kind) TWO_REGIONS "(ctrl 0 0 " kind " (ins (c 0)) (to 1 1) (vals))\n(ctrl 1 0 return (ins) (to) (vals))\n"
 /* a select with one out, its cases, and the nodes from 1 on; a case that gives it, and one with these nodes and outputs */
 #define SELECT(first, second) \
-    FUNC "(const 5 43)\n(region (in) (nodes 0) (out (n 0 0)))\n" first second "(select bool (c 0) (cases 1 2) (outs (0 4)))\n"
+    FUNC "(const 5 43)\n(region (in) (nodes 0) (out (n 0 0)))\n" first second "(select bool (c 0) (cases 1 2) (outs (0 4)) 0)\n"
 #define GIVES "(region (in) (nodes) (out (c 0)))\n"
 #define ENDS(nodes, outputs) "(region (in) (nodes " nodes ") (out" outputs "))\n"
 #define EXIT "(exit (inst 252))\n"
+/* a loop and a select in it, each with its control number and the space before it */
+#define CONTROLS(loop, select) \
+    FUNC "(const 5 43)\n(region (in) (nodes 0) (out))\n(region (in) (nodes 1) (out))\n" EMPTY EMPTY \
+         "(loop 1 (c 0) (init)" loop ")\n(select bool (c 0) (cases 2 3) (outs)" select ")\n"
 
 static const struct {
     uint32_t opcode, attributes, result_type, result, immediates, immediate[3], ids, id[2];
@@ -54,11 +58,15 @@ static const struct refused {
     {SIGHVONA_FORMS, "a last line that is not ended", 10, FUNC "(imported)", "", 0},
     {SIGHVONA_FORMS, "the program's first line", 10, "(first 10)\n" LISTING, "", 0},
     {SIGHVONA_FORMS, "a number over 32 bits", 10, "(func 0 2 4294967296 0)\n(imported)\n", "", 0},
+    {SIGHVONA_FORMS, "a loop without a control number", 10, CONTROLS("", " 0"), "", 0},
+    {SIGHVONA_FORMS, "a select with two control numbers", 10, CONTROLS(" 0", " 0 0"), "", 0},
     {SIGHVONA_LIMITS, "129 regions", 10, FUNC, EMPTY, 129},
     {SIGHVONA_REFERENCES, "a return type of 0", 10, "(func 0 0 3 0)\n(imported)\n", "", 0},
     {SIGHVONA_REFERENCES, "a constant that is not there", 10, FUNC "(region (in) (nodes) (out (c 0)))\n", "", 0},
     {SIGHVONA_REFERENCES, "a constant's id twice", 10, FUNC "(const 5 43)\n(const 5 43)\n" EMPTY, "", 0},
     {SIGHVONA_REFERENCES, "an opcode that only the lifter gives", 10, FUNC BLOCK "(op 0 0 (inst 253))\n", "", 0},
+    {SIGHVONA_REFERENCES, "a loop's control number of 3", 10, CONTROLS(" 3", " 2"), "", 0},
+    {SIGHVONA_REFERENCES, "a select's control number of all bits", 10, CONTROLS(" 2", " 4294967295"), "", 0},
     {SIGHVONA_TREE, "region 1 is no child", 10, FUNC, EMPTY, 2},
     {SIGHVONA_TREE, "a node twice", 10, FUNC "(region (in) (nodes 0 0) (out))\n(block)\n", "", 0},
     {SIGHVONA_COUNTS, "a param without an input", 10, FUNC "(param 0 2)\n" EMPTY, "", 0},
@@ -79,7 +87,7 @@ static const struct refused {
      FUNC EMPTY "(region (in (0 4)) (nodes) (out))\n(ctrl 0 0 return (ins (r 1 0)) (to) (vals))\n", "", 0},
     {SIGHVONA_VALUES, "a result of a dropped block", 10,
      FUNC "(const 5 43)\n(region (in) (nodes 0 1 2) (out))\n(region (in) (nodes 3) (out))\n(exit (inst 252))\n(block 0)\n"
-          "(loop 1 (c 0) (init))\n(block 1)\n(op 0 4 (inst 128))\n(op 0 4 (inst 128) (d 0))\n",
+          "(loop 1 (c 0) (init) 0)\n(block 1)\n(op 0 4 (inst 128))\n(op 0 4 (inst 128) (d 0))\n",
      "", 0},
 };
 
@@ -254,6 +262,34 @@ static void killed_case(void) {
     }
 }
 
+/* The control numbers of a loop and of a select in it are the immediates of their merges. */
+static void control_numbers(void) {
+    static const struct {
+        const char *text;
+        uint32_t loop, select;
+    } TEXTS[] = {
+        {CONTROLS(" 0", " 0"), 0, 0},
+        {CONTROLS(" 1", " 2"), 1, 2},
+        {CONTROLS(" 2", " 1"), 2, 1},
+    };
+    about = "control numbers";
+    for (size_t i = 0; i < COUNT(TEXTS); i++) {
+        const uint32_t loop[] = {0, 3, TEXTS[i].loop}, select[] = {0, 2, TEXTS[i].select};
+        struct sighvona_inst inst;
+        size_t at = 0, after, merges = 0;
+        lift(SIGHVONA_LIFTED, TEXTS[i].text, strlen(TEXTS[i].text), 10, WORDS, WORDS, WORDS);
+        for (; (after = sighvona_next(out, words, at, &inst)) != 0; at = after) {
+            if (inst.opcode == 246 || inst.opcode == 247) {
+                merges++;
+                expect(inst.immediates == 1 && memcmp(inst.immediate, inst.opcode == 246 ? loop : select, sizeof loop) == 0,
+                       "the merge's immediate");
+            }
+        }
+        expect(merges == 2, "two merges");
+        read_alone(0, TEXTS[i].text, strlen(TEXTS[i].text), WORDS, WORDS);
+    }
+}
+
 /* A text that is refused: with output slices of any length, but 8 comes first. */
 static void refused(const struct refused *given) {
     static char text[SIGHVONA_TEXT_BYTES + 100];
@@ -310,11 +346,12 @@ static void stepping(void) {
 int main(void) {
     about = "the version";
     expect(sighvona_version() == SIGHVONA_VERSION, "the library's is the header's");
-    expect(SIGHVONA_VERSION == 1280, "0.5.0 as a number");
+    expect(SIGHVONA_VERSION == 1536, "0.6.0 as a number");
     listing();
     highest_id();
     equal_targets();
     killed_case();
+    control_numbers();
     for (size_t i = 0; i < COUNT(REFUSED); i++) {
         refused(&REFUSED[i]);
     }

@@ -45,7 +45,7 @@ use std::fmt;
 
 /// The version that this crate is for: major * 65,536 + minor * 256 + patch. [`library_version`]
 /// tells that of the archive that was linked.
-pub const VERSION: u32 = version(0, 5, 0);
+pub const VERSION: u32 = version(0, 6, 0);
 
 const fn version(major: u32, minor: u32, patch: u32) -> u32 {
     major * 65_536 + minor * 256 + patch
@@ -105,7 +105,8 @@ pub enum Refusal {
     /// outs, 512 immediates or 512 ctrl targets.
     Limits,
     /// 4: a reference names nothing; an id is 0 or a const's id repeats; an opcode, an operand kind
-    /// or an immediate's kind is none, or an opcode is one that only lifting may give.
+    /// or an immediate's kind is none, or an opcode is one that only lifting may give; a select's or
+    /// loop's control number is over 2.
     References,
     /// 5: nodes, ops and regions are no tree: each node, op and child region must stand in one
     /// place.

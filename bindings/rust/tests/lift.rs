@@ -148,7 +148,7 @@ fn select(cases: [(&str, &str); 2], node: &str) -> String {
         cases.map(|(nodes, out)| format!("(region (in) (nodes{nodes}) (out{out}))\n"));
     format!(
         "(const 5 43)\n(region (in) (nodes 0) (out (n 0 0)))\n{first}{second}\
-        (select bool (c 0) (cases 1 2) (outs (0 4)))\n(exit (inst 252))\n{node}"
+        (select bool (c 0) (cases 1 2) (outs (0 4)) 0)\n(exit (inst 252))\n{node}"
     )
 }
 
@@ -178,6 +178,39 @@ fn killed_case() {
     ];
     for rest in refused {
         assert_eq!(refusal(10, &rest), (6, Refusal::Counts));
+    }
+}
+
+/// A loop and a select in it, each with its control number and the space before it.
+fn numbered(of_loop: &str, of_select: &str) -> String {
+    let [outer, inner, case] =
+        [" 0", " 1", ""].map(|nodes| format!("(region (in) (nodes{nodes}) (out))\n"));
+    format!(
+        "(const 5 43)\n{outer}{inner}{case}{case}(loop 1 (c 0) (init){of_loop})\n\
+        (select bool (c 0) (cases 2 3) (outs){of_select})\n"
+    )
+}
+
+/// Control numbers are the immediates of merges; from 3 on they are refused by 4, and without one a
+/// form is no form.
+#[test]
+fn control_numbers() {
+    for [of_loop, of_select] in [[0, 0], [1, 2], [2, 1]] {
+        let rest = numbered(&format!(" {of_loop}"), &format!(" {of_select}"));
+        let text = format!("(func 0 2 3 0)\n{rest}");
+        let mut out = vec![0; MAX_WORDS];
+        let lifted = lift(text.as_bytes(), 10, &mut Scratch::new(), &mut out).expect(&rest);
+        let merges = instructions(&out[..lifted.words]).filter(|i| [246, 247].contains(&i.opcode));
+        let found: Vec<_> = merges.flat_map(|merge| merge.immediates()).collect();
+        let immediate = |operand_kind, word| Immediate { kind: 0, operand_kind, word };
+        assert_eq!(found, [immediate(3, of_loop), immediate(2, of_select)]);
+        assert_eq!(read(text.as_bytes(), &mut Scratch::new()), Ok(()));
+    }
+    for (of_loop, of_select) in [(" 3", " 0"), (" 0", " 3"), (" 4294967295", " 1")] {
+        assert_eq!(refusal(10, &numbered(of_loop, of_select)), (4, Refusal::References));
+    }
+    for (of_loop, of_select) in [("", " 0"), (" 0", ""), (" 1 1", " 0"), (" 0", " 4294967296")] {
+        assert_eq!(refusal(10, &numbered(of_loop, of_select)), (2, Refusal::Forms));
     }
 }
 
@@ -262,7 +295,7 @@ fn steps_through_any_words() {
 #[test]
 fn version() {
     assert_eq!(sighvona::library_version(), sighvona::VERSION);
-    assert_eq!(sighvona::VERSION, 1280);
+    assert_eq!(sighvona::VERSION, 1536);
     let [major, minor, patch] = [16, 8, 0].map(|bits| sighvona::VERSION >> bits & 255);
     assert_eq!(format!("{major}.{minor}.{patch}"), env!("CARGO_PKG_VERSION"));
 }
