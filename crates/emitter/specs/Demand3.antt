@@ -1,11 +1,11 @@
 -- Demands 2 and 3 about the words that stand in the output slice after an accepted call: running the regions of the text and running the blocks of
 -- that list are alike in every world, and neither run is ever stuck; the list gives each new id once, and every id in it is below the next free one;
 -- each phi has one pair for each block whose way out names its block; the two labels of a 250 differ; each merge carries its own node's control
--- word, on which no run depends. The hypotheses are what `lift_function` promises, that it told a word count, and for the runs that the text has a
--- body. Assumes nothing.
-use mathlib.Core.Path.{_≡_, refl, sym, ap, subst, _∙_}
+-- number, on which neither run depends. The hypotheses are what `lift_function` promises, that it told a word count, for the runs that the text has
+-- a body, and for their being alike that constants of opcode 41 are true. Assumes nothing.
+use mathlib.Core.Path.{_≡_, sym, ap, subst, _∙_}
 use mathlib.Core.Bool.{true}
-use mathlib.Core.List.{List, _++_}
+use mathlib.Core.List.{List}
 use mathlib.Core.Option.{some}
 use Prim.Native.Nat.{ℕ, suc, _≤_, _<_}
 use native.Mathlib.Omega.{arith}
@@ -36,7 +36,7 @@ use Rattle.flat.specs.Labels.{LabelsDiffer}
 use Rattle.flat.specs.Merges.{OwnControl}
 use Rattle.flat.specs.Demand2.{list-below, list-controls, list-ids, list-labels, list-phis}
 use Rattle.emitter.specs.declared.Lifted.the-variants.{Whole}
-use Rattle.emitter.specs.Lift.{gives, outcome, refuses, told}
+use Rattle.emitter.specs.Lift.{gives, outcome, told}
 
 -- an answer that gives n words is their list
 list-of : (a : Answer) (n next : ℕ) → gives n next ≡ outcome a → (ws : List ℕ) × (a ≡ listed ws next) × (n ≡ length ws)

@@ -23,10 +23,10 @@ use Rattle.lifting.specs.Absorb.{Absorbing, absorb, absorbAll, absorbAt, countI
 use Rattle.lifting.specs.Ids.{Name, idOf, label, labelOf, names, newId, nextId, numberIn, paramKeys, resultOf, theFunction, value}
 use Rattle.lifting.specs.Instructions.{Instruction, bare, blockInsts, bodyInsts, endInst, functionControl, functionInst, ifUsed, instructions, labelInst, listOf, loopControl, mergeInsts, opImms, opInst, opOpcode, pairs, paramInst, paramInsts, phiInst, phiInsts, resultId, selectionControl, short, termImms, termInst, termOpcode}
 use Rattle.lifting.specs.BlockRun.{isMerge}
-use Rattle.runs.specs.Members.{All, all-from, all-in}
+use Rattle.runs.specs.Members.{All}
 use Rattle.runs.specs.Each.{taken}
-use Rattle.runs.specs.EmitRun.{BlockOk, OpOk, Sound}
-use Rattle.runs.specs.Listing.{all-phis, ops-fine, term-fine}
+use Rattle.runs.specs.EmitRun.{BlockOk, Sound, free-of}
+use Rattle.runs.specs.Listing.{all-phis, no-merges}
 use Rattle.runs.specs.Controls.{cleared, clearedNode}
 
 -- ---- blocks with 0 for the number of each merge
@@ -42,13 +42,11 @@ clearTerm t = record { attrs = t .attrs; kind = t .kind; ins = t .ins; targets =
 abbrev clearBlock : BlockLifting → BlockLifting
 clearBlock b = record { keys = b .keys; decls = b .decls; defaults = b .defaults; ops = b .ops; term = clearTerm (b .term) }
 
-abbrev clearTable : Table → Table
-clearTable [] = []
-clearTable (x ∷ T) = (x .0, clearBlock (x .1)) ∷ clearTable T
+abbrev clearEntry : CfgPoint × BlockLifting → CfgPoint × BlockLifting
+clearEntry x = (x .0, clearBlock (x .1))
 
-clear-append : (T U : Table) → clearTable (T ++ U) ≡ clearTable T ++ clearTable U
-clear-append [] U = refl
-clear-append (x ∷ T) U = ap (λ (L : Table). (x .0, clearBlock (x .1)) ∷ L) (clear-append T U)
+abbrev clearTable : Table → Table
+clearTable = map clearEntry
 
 -- ---- the walk
 
@@ -99,7 +97,7 @@ module _ (F : Func) where
   module _ (v w : ℕ → Place → Table) (h : (c : ℕ) (p : Place) → v c p ≡ clearTable (w c p)) where
     kids-clear : (n : ℕ) (cs : List ℕ) → walkKids G v n cs ≡ clearTable (walkKids F w n cs)
     kids-clear n [] = refl
-    kids-clear n (c ∷ cs) = (λ i. h c (inNode n) i ++ kids-clear n cs i) ∙ sym (clear-append (w c (inNode n)) (walkKids F w n cs))
+    kids-clear n (c ∷ cs) = (λ i. h c (inNode n) i ++ kids-clear n cs i) ∙ sym (map-append clearEntry (w c (inNode n)) (walkKids F w n cs))
 
     walk-node : (n : ℕ) (q : CfgPoint) → walkNode G v n q ≡ clearTable (walkNode F w n q)
     walk-node n q =
@@ -108,11 +106,11 @@ module _ (F : Func) where
         ∙ (λ i. (nodeEntry n, in-clear d n i) ∷ (walkKids G v n (children-clear d i) ++ ((nodeExit n, out-clear d n q i) ∷ [])))
         ∙ ap (λ (T : Table). (nodeEntry n, clearBlock (inBlock F d n)) ∷ T)
         (ap (λ (T : Table). T ++ clearTable ((nodeExit n, outBlock F d n q) ∷ [])) (kids-clear n (childrenOf d))
-        ∙ sym (clear-append (walkKids F w n (childrenOf d)) ((nodeExit n, outBlock F d n q) ∷ [])))
+        ∙ sym (map-append clearEntry (walkKids F w n (childrenOf d)) ((nodeExit n, outBlock F d n q) ∷ [])))
 
     nodes-clear : (r : ℕ) (ns : List ℕ) → walkNodes G v r ns ≡ clearTable (walkNodes F w r ns)
     nodes-clear r [] = refl
-    nodes-clear r (n ∷ ns) = (λ i. walk-node n (nextPoint r ns) i ++ nodes-clear r ns i) ∙ sym (clear-append (walkNode F w n (nextPoint r ns)) (walkNodes F w r ns))
+    nodes-clear r (n ∷ ns) = (λ i. walk-node n (nextPoint r ns) i ++ nodes-clear r ns i) ∙ sym (map-append clearEntry (walkNode F w n (nextPoint r ns)) (walkNodes F w r ns))
 
   region-clear : (k r : ℕ) (p : Place) → walkRegion G k r p ≡ clearTable (walkRegion F k r p)
   region-clear zero r p = refl
@@ -120,11 +118,11 @@ module _ (F : Func) where
       let ns = regionOf F r .nodes in
       let w : ℕ → Place → Table = λ c q. walkRegion F k c q in
       ap (λ (T : Table). (regionEntry r, entryBlock G r p) ∷ T)
-      ((λ i. nodes-clear (λ c q. walkRegion G k c q) w (region-clear k) r ns i ++ ((regionExit r, plain (way-clear r p i)) ∷ [])) ∙ sym (clear-append (walkNodes F w r ns) ((regionExit r, exitBlock F r p) ∷ [])))
+      ((λ i. nodes-clear (λ c q. walkRegion G k c q) w (region-clear k) r ns i ++ ((regionExit r, plain (way-clear r p i)) ∷ [])) ∙ sym (map-append clearEntry (walkNodes F w r ns) ((regionExit r, exitBlock F r p) ∷ [])))
 
   roots-clear : (k : ℕ) (rs : List ℕ) → walkRoots G k rs ≡ clearTable (walkRoots F k rs)
   roots-clear k [] = refl
-  roots-clear k (r ∷ rs) = (λ i. region-clear k r top i ++ roots-clear k rs i) ∙ sym (clear-append (walkRegion F k r top) (walkRoots F k rs))
+  roots-clear k (r ∷ rs) = (λ i. region-clear k r top i ++ roots-clear k rs i) ∙ sym (map-append clearEntry (walkRegion F k r top) (walkRoots F k rs))
 
   pub walk-clear : walkOf (cleared F) ≡ clearTable (walkOf F)
   unfolding walkOf roots
@@ -250,9 +248,9 @@ stays : (l : List Instruction) → All NoMerge l → map clearedInst l ≡ l
 stays [] h = refl
 stays (i ∷ l) h = λ j. clearIf (h .0 j) i ∷ stays l (h .1) j
 
-keys-clear : {A : Type 0} (f : BlockLifting → List A) → ((b : BlockLifting) → f (clearBlock b) ≡ f b) → (T : Table) → gather (λ (x : CfgPoint × BlockLifting). f (x .1)) (clearTable T) ≡ gather (λ (x : CfgPoint × BlockLifting). f (x .1)) T
-keys-clear f h [] = refl
-keys-clear f h (x ∷ T) = λ i. h (x .1) i ++ keys-clear f h T i
+gather-clear : {A : Type 0} (f : BlockLifting → List A) → ((b : BlockLifting) → f (clearBlock b) ≡ f b) → (T : Table) → gather (λ (x : CfgPoint × BlockLifting). f (x .1)) (clearTable T) ≡ gather (λ (x : CfgPoint × BlockLifting). f (x .1)) T
+gather-clear f h [] = refl
+gather-clear f h (x ∷ T) = λ i. h (x .1) i ++ gather-clear f h T i
 
 module _ (F : Func) (first : ℕ) (T K : Table) where
   abbrev T0 : Table
@@ -263,7 +261,7 @@ module _ (F : Func) (first : ℕ) (T K : Table) where
 
   names-clear : names (cleared F) T0 K0 ≡ names F T K
   unfolding names
-  names-clear = λ i. theFunction ∷ (map value (paramKeys F ++ (keys-clear (λ b. b .keys) (λ b. refl) T i ++ keys-clear (λ b. gather (λ j. resultOf (opOf F j .type) j) (b .ops)) (λ b. refl) K i)) ++ map label (points-clear K i))
+  names-clear = λ i. theFunction ∷ (map value (paramKeys F ++ (gather-clear (λ b. b .keys) (λ b. refl) T i ++ gather-clear (λ b. gather (λ j. resultOf (opOf F j .type) j) (b .ops)) (λ b. refl) K i)) ++ map label (points-clear K i))
 
   new-clear : newId (cleared F) first T0 K0 ≡ newId F first T K
   unfolding newId
@@ -322,11 +320,6 @@ module _ (F : Func) (first : ℕ) (T K : Table) where
   merge-clear (loopMerge a b u) = λ i. bare (opcodeOf LoopMerge) (short loopControl 0) (label-clear i a ∷ label-clear i b ∷ []) ∷ []
 
   module _ (ok : Sound F first T K) where
-    ops-stay : (is : List ℕ) → All (OpOk F first T K) is → map clearedInst (map (opInst F first T K) is) ≡ map (opInst F first T K) is
-    ops-stay is h =
-        let fine = ops-fine F first T K is (all-from _ is (λ i j. all-in (OpOk F first T K) is h i j .0)) in
-        stays (map (opInst F first T K) is) (all-from NoMerge (map (opInst F first T K) is) (λ i j. all-in _ (map (opInst F first T K) is) fine i j .1 .1))
-
     phis-stay : (q : CfgPoint) (b : BlockLifting) → map clearedInst (phiInsts F first T K q (b .keys) (b .decls) 0) ≡ phiInsts F first T K q (b .keys) (b .decls) 0
     unfolding phiInst
     phis-stay q b = stays _ (all-phis F first T K NoMerge q (λ v d j. refl) (b .keys) (b .decls) 0)
@@ -334,6 +327,7 @@ module _ (F : Func) (first : ℕ) (T K : Table) where
     body-clear : (q : CfgPoint) (b : BlockLifting) → BlockOk F first T K b → bodyInsts (cleared F) first T0 K0 q (clearBlock b) ≡ map clearedInst (bodyInsts F first T K q b)
     unfolding bodyInsts
     body-clear q b h =
+        let others = no-merges F first T K b (free-of F first T K ok b h) in
         let phis = phiInsts F first T K q (b .keys) (b .decls) 0 in
         let ops = map (opInst F first T K) (b .ops) in
         let merge = mergeInsts F first T K (b .term .merge) in
@@ -342,8 +336,8 @@ module _ (F : Func) (first : ℕ) (T K : Table) where
         ∙ sym (
         map-append clearedInst phis (ops ++ (merge ++ (way ∷ [])))
         ∙ (λ i. phis-stay q b i ++ map-append clearedInst ops (merge ++ (way ∷ [])) i)
-        ∙ (λ i. phis ++ (ops-stay (b .ops) (h .ops-ok) i ++ map-append clearedInst merge (way ∷ []) i))
-        ∙ ap (λ (j : Instruction). phis ++ (ops ++ (map clearedInst merge ++ (j ∷ [])))) (ap (λ (c : Bool). clearIf c way) (term-fine F first T K (b .term) (h .kind-free) .1 .1))
+        ∙ (λ i. phis ++ (stays ops (others .0) i ++ map-append clearedInst merge (way ∷ []) i))
+        ∙ ap (λ (j : Instruction). phis ++ (ops ++ (map clearedInst merge ++ (j ∷ [])))) (ap (λ (c : Bool). clearIf c way) (others .1))
         )
 
     blocks-clear : (L : Table) → All (λ (x : CfgPoint × BlockLifting). BlockOk F first T K (x .1)) L → blockInsts (cleared F) first T0 K0 (clearTable L) ≡ map clearedInst (blockInsts F first T K L)

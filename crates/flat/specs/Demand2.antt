@@ -1,8 +1,8 @@
 -- Demand 2 about the list that is written, for every accepted text, imported functions too: new ids run from the first id to one below the next
 -- free id, none twice; every id in the list is below that one, which is 4,194,303 at most; a phi has one pair for each kept block with an edge to
 -- it, holding that edge's value; the exit of a case whose last node is an exit stands in no kept block; the two labels of a 250 differ; each merge
--- carries the control number of the node whose exit it names, and nothing else of the list depends on these numbers. No hypothesis beyond the answer.
--- Assumes nothing.
+-- carries the control number of the node whose exit it names, none is lost, and nothing else of the list depends on these numbers. No hypothesis
+-- beyond the answer. Assumes nothing.
 use mathlib.Core.Path.{_≡_, refl, sym, ap, _∙_, subst}
 use mathlib.Core.Bool.{true}
 use mathlib.Core.List.{List, map}
@@ -19,7 +19,7 @@ use Rattle.lifting.specs.Points.{Table, regionExit}
 use Rattle.lifting.specs.Walk.{walkOf}
 use Rattle.lifting.specs.Absorb.{absorb, kept, useCount}
 use Rattle.lifting.specs.Ids.{labelOf, nextId, phiKeys}
-use Rattle.lifting.specs.Instructions.{Instruction, listOf}
+use Rattle.lifting.specs.Instructions.{Instruction, instructions, listOf, mergeInsts}
 use Rattle.lifting.specs.Words.{listFrom}
 use Rattle.lifting.specs.BlockRun.{parts, phisOf}
 use Rattle.lifting.specs.Answer.{answer, listed}
@@ -37,7 +37,7 @@ use Rattle.runs.specs.Demand3.{accepted, fine, list-is, passed}
 use Rattle.runs.specs.Controls.{SameButControls, cleared}
 use Rattle.flat.specs.Below.{IdsBelow, list-low}
 use Rattle.flat.specs.Labels.{LabelsDiffer, kept-parted, list-apart}
-use Rattle.flat.specs.Merges.{OwnControl, kept-own, list-own}
+use Rattle.flat.specs.Merges.{OwnControl, kept-own, list-own, merge-stays}
 use Rattle.flat.specs.Cleared.{clearedInst, list-of-cleared, next-of-cleared}
 use Rattle.flat.specs.Phis.{phi-keys-kept}
 use Rattle.flat.specs.Flat.{gone, noPair, statusAt}
@@ -89,6 +89,15 @@ module _ (text : List ℕ) (first func work out : ℕ) (ws : List ℕ) (next : �
   list-controls =
       subst (All (OwnControl F (labelOf F first T K))) (sym (list-is text first func work out ws next ok F is))
       (list-own F first T K (refers F (passed text first func work out ws next ok F is .references)) (fine text first func work out ws next ok F is .sound) (kept-own F))
+
+  -- And none is lost: the merge of each visited point that stands in a kept block is in the list. A point whose way out has a merge absorbs nothing.
+  pub merges-stay : (i : ℕ) → i < length (walkOf F) → ¬ (statusAt (useCount (walkOf F)) (walkOf F) i ≡ gone) → (j : Instruction)
+      → In j (mergeInsts F first (walkOf F) (kept (walkOf F)) (getD (walkOf F) i noPair .1 .term .merge)) → In j (listFrom ws)
+  unfolding listOf
+  merges-stay i h n j m =
+      subst (In j) (sym (list-is text first func work out ws next ok F is))
+      (of-walk F (λ (U : Table). (i : ℕ) → i < length U → ¬ (statusAt (useCount U) U i ≡ gone) → (j : Instruction) → In j (mergeInsts F first U (kept U) (getD U i noPair .1 .term .merge))
+      → In j (instructions F first U (kept U))) (λ body. merge-stays F (shaped body) first) (λ i h. absurd (omega arith)) i h n j m)
 
   -- The Rust writes 0 there: with that word cleared the list is that of the function with 0 for each control number, and the next free id is the same.
   pub list-cleared : map clearedInst (listFrom ws) ≡ listOf (cleared F) first

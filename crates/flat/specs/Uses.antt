@@ -36,6 +36,26 @@ pub used-twice : (T : Table) (p r q : CfgPoint) → ¬ (p ≡ r) → Uses T p q 
 unfolding useCount
 used-twice T p r q n i j = omega (arith, two-uses T p r q n, in-count q (labels (blockAt T p .term)) i, in-count q (labels (blockAt T r .term)) j)
 
+-- the way out of a region has no merge
+module _ (F : Func) where
+  child-merge : (d : Node) (n : ℕ) (vs : List Value) → childTerm F d n vs .merge ≡ noMerge
+  child-merge (block is) n vs = refl
+  child-merge (select k v cs ds u) n vs = refl
+  child-merge (loop b c is u) n vs = by-case (always F c)
+    where
+      by-case : (b : Bool) → loopTerm F b n c vs .merge ≡ noMerge
+      by-case true = refl
+      by-case false = refl
+  child-merge (exit i ws) n vs = refl
+
+  root-merge : (o : Option ControlInst) (r : ℕ) → rootTerm F o r .merge ≡ noMerge
+  root-merge none r = refl
+  root-merge (some c) r = refl
+
+  pub exit-merge : (r : ℕ) (p : Place) → exitTerm F r p .merge ≡ noMerge
+  exit-merge r top = root-merge (ctrlOf F r) r
+  exit-merge r (inNode n) = child-merge (nodeOf F n) n (regionOf F r .outs)
+
 module _ (F : Func) (ok : Shaped F) where
   abbrev T : Table
   T = walkOf F
@@ -64,24 +84,6 @@ module _ (F : Func) (ok : Shaped F) where
   merge-visited (loop b c is u) e v sf = (visited-out F ok v sf, (visited-exit F ok (in-loop v sf e), tt))
   merge-visited (exit i vs) e v sf = tt
 
-  child-merge : (d : Node) (n : ℕ) (vs : List Value) → childTerm F d n vs .merge ≡ noMerge
-  child-merge (block is) n vs = refl
-  child-merge (select k v cs ds u) n vs = refl
-  child-merge (loop b c is u) n vs = by-case (always F c)
-    where
-      by-case : (b : Bool) → loopTerm F b n c vs .merge ≡ noMerge
-      by-case true = refl
-      by-case false = refl
-  child-merge (exit i ws) n vs = refl
-
-  root-merge : (o : Option ControlInst) (r : ℕ) → rootTerm F o r .merge ≡ noMerge
-  root-merge none r = refl
-  root-merge (some c) r = refl
-
-  exit-merge : (r : ℕ) (p : Place) → exitTerm F r p .merge ≡ noMerge
-  exit-merge r top = root-merge (ctrlOf F r) r
-  exit-merge r (inNode n) = child-merge (nodeOf F n) n (regionOf F r .outs)
-
   abbrev Seen : CfgPoint → Type 0
   Seen q = In q (points T)
 
@@ -89,7 +91,7 @@ module _ (F : Func) (ok : Shaped F) where
   step-merges x o (step-entry v) = tt
   step-merges x o (step-in {n} v sf h) = merge-visited (nodeOf F n) refl v sf
   step-merges x o (step-out v sf) = tt
-  step-merges x o (step-exit {r} {p} v a) = subst (λ (m : Merge). All Seen (mergeLabels m)) (sym (exit-merge r p)) tt
+  step-merges x o (step-exit {r} {p} v a) = subst (λ (m : Merge). All Seen (mergeLabels m)) (sym (exit-merge F r p)) tt
 
   pub labels-visited : (x : CfgPoint × BlockLifting) → In x T → (q : CfgPoint) → In q (labels (x .1 .term)) → In q (points T)
   labels-visited x i q j = all-in Seen (labels (x .1 .term))

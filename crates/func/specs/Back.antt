@@ -15,10 +15,10 @@ use Rattle.words.specs.Part.{part-same, part-at}
 use Rattle.lifting.specs.Lists.{every, gather}
 use Rattle.lifting.specs.Limits.{maxRegions, maxNodes, maxOps, maxConsts, maxParams, maxValues, maxDecls, maxImmediates, maxTargets, withinLimits}
 use Rattle.lifting.specs.Ast.{Value, const, regionInput, nodeOutput, dataInstOutput, Imm, DataInstKind, inst, call, ext, Op, boolCond, spvInst, Decl, Node, block, select, loop, exit, Region, ControlInstKind, unreachable, return, branch, selectBranch, exitInvocation, ControlInst, Func}
-use Rattle.lifting.specs.Parts.{childrenOf, outsOf, mergeControl, nodeValues, nodeInsts, opInsts, ctrlInsts, blockOps, ctrlValues}
+use Rattle.lifting.specs.Parts.{childrenOf, outsOf, nodeControl, nodeValues, nodeInsts, opInsts, ctrlInsts, blockOps, ctrlValues}
 use Rattle.lifting.specs.Parts as text
 use Rattle.func.specs.Lists.{both, every-append, every-gather, every-true, back}
-use Rattle.func.specs.Layout.{poolTotal, consts, params, decls, values, imms, targets, nodeRefs, opRefs, childRefs, entries, regions, nodes, ops, ctrls, room, entryRoom, entry-room}
+use Rattle.func.specs.Layout.{poolTotal, consts, params, decls, values, imms, targets, nodeRefs, opRefs, childRefs, entries, regions, nodes, ops, ctrls, entryRoom, entry-room}
 use Rattle.func.specs.Store.{count, view, folds}
 use Rattle.func.specs.Adds.{Ready, ready-after, adds-none, adds-push}
 use Rattle.func.specs.Lines.{num, span, keepCells, rowOf, lineGain, length-row, slice, Later, later-then, Piece, piece-back, CellIs, Row, agree, row-cells, line-back, Each, each-back, rows-back}
@@ -96,7 +96,7 @@ region-back {t} fit e r h k =
     λ i. record { ins = a i; nodes = b i; outs = c i }
 
 -- a node from its parts
-node-parts : (n : Node) → nodeFrom (nodeNumber n) (record { opcode = opcodeOf (nodeInsts n); imms = immsOf (nodeInsts n) }) (nodeValues n) (blockOps n) (childrenOf n) (outsOf n) (mergeControl n) ≡ n
+node-parts : (n : Node) → nodeFrom (nodeNumber n) (record { opcode = opcodeOf (nodeInsts n); imms = immsOf (nodeInsts n) }) (nodeValues n) (blockOps n) (childrenOf n) (outsOf n) (nodeControl n) ≡ n
 unfolding nodeFrom
 node-parts (block is) = refl
 node-parts (select boolCond v cs ds u) = refl

@@ -6,7 +6,7 @@ use Prim.Native.Nat.{ℕ, _+_, _*_, min}
 use lib.Seq.{sets}
 use Rattle.lifting.specs.Lists.{gather}
 use Rattle.lifting.specs.Ast.{Value, const, regionInput, nodeOutput, dataInstOutput, Imm, Inst, DataInstKind, inst, call, ext, Op, boolCond, spvInst, Decl, Node, block, select, loop, exit, Region, ControlInstKind, unreachable, return, branch, selectBranch, exitInvocation, ControlInst, Const, Func}
-use Rattle.lifting.specs.Parts.{childrenOf, outsOf, mergeControl, nodeValues, nodeInsts, opInsts, ctrlInsts, blockOps}
+use Rattle.lifting.specs.Parts.{childrenOf, outsOf, nodeControl, nodeValues, nodeInsts, opInsts, ctrlInsts, blockOps}
 use Rattle.func.specs.Layout.{consts, params, decls, values, imms, targets, nodeRefs, opRefs, childRefs, entries, regions, nodes, ops, ctrls}
 use Rattle.func.specs.Store.{count, push, folds}
 use Rattle.func.specs.Lines.{Cell, num, run, span, keepCells, rowOf, keepLine}
@@ -62,7 +62,7 @@ nodeCells n =
     ∷ run opRefs (map single (blockOps n))
     ∷ run childRefs (map single (childrenOf n))
     ∷ run decls (map declWords (outsOf n))
-    ∷ num (mergeControl n)
+    ∷ num (nodeControl n)
     ∷ []
 
 -- an op: 0 INST and its opcode, 1 call and its ID, 2 ext, its ID and its N

@@ -4,7 +4,7 @@ use mathlib.Core.Path.{_≡_, refl}
 use mathlib.Core.List.{List, [], _∷_, map}
 use Prim.Native.Nat.{ℕ}
 use Rattle.lifting.specs.Ast.{Value, Op, Node, Region, ControlInst}
-use Rattle.lifting.specs.Parts.{childrenOf, outsOf, mergeControl, nodeValues, nodeInsts, opInsts, ctrlInsts, blockOps}
+use Rattle.lifting.specs.Parts.{childrenOf, outsOf, nodeControl, nodeValues, nodeInsts, opInsts, ctrlInsts, blockOps}
 use Rattle.func.specs.declared.OpKind.{OpKind}
 use Rattle.func.specs.declared.Marks.{Marks}
 use Rattle.func.specs.Layout.{decls, values, imms, targets, nodeRefs, opRefs, childRefs, entries, regions, nodes, ops, ctrls}
@@ -77,7 +77,7 @@ pub keepRegion-is : (r : Region) (w : List ℕ) → keepRegion r w ≡ regionRow
 unfolding keepRegion keepLine regionCells keepCells rowOf regionRow
 keepRegion-is r w = simp folds-map
 
-pub keepNode-is : (n : Node) (w : List ℕ) → keepNode n w ≡ nodeRow (marksOf w) (nodeNumber n) (opcodeOf (nodeInsts n)) (mergeControl n)
+pub keepNode-is : (n : Node) (w : List ℕ) → keepNode n w ≡ nodeRow (marksOf w) (nodeNumber n) (opcodeOf (nodeInsts n)) (nodeControl n)
     (folds keepDecl (outsOf n) (folds keepChild (childrenOf n) (folds keepOpRef (blockOps n) (folds keepValue (nodeValues n) (folds keepImm (immsOf (nodeInsts n)) w)))))
 unfolding keepNode keepLine nodeCells keepCells rowOf nodeRow
 keepNode-is n w = simp folds-map

@@ -77,10 +77,6 @@ module _ {F : Func} {w : List ℕ} (s : Stored F w) where
     unfolding nodeCells
     node-kind = node-at .cell 0 (lit< tt)
 
-    pub node-control : word nodes w n 7 ≡ text.mergeControl (text.nodeOf F n)
-    unfolding nodeCells
-    node-control = node-at .cell 7 (lit< tt)
-
     pub values-count : count values w ≤ entryRoom values → word nodes w n 3 % 4096 ≡ length (nodeValues (text.nodeOf F n))
     unfolding nodeCells
     values-count g = list-count {f = valueWords} {xs = nodeValues (text.nodeOf F n)} (record { size = s .size; fits = g; pool = lit< tt; piece = node-at .cell 3 (lit< tt) g })

@@ -233,7 +233,7 @@ module _ {w : List ℕ} (t : Tables w) (n : ℕ) (h : n < length (funcOf w .node
   unfolding nodeCells
   node-opcode-is = node-at t n h .cell 1 (lit< tt)
 
-  pub node-control-is : word nodes w n 7 ≡ text.mergeControl (text.nodeOf (funcOf w) n)
+  pub node-control-is : word nodes w n 7 ≡ text.nodeControl (text.nodeOf (funcOf w) n)
   unfolding nodeCells
   node-control-is = node-at t n h .cell 7 (lit< tt)
 

@@ -33,7 +33,7 @@ ghost use Rattle.func.specs.Layout.{decls, values, imms, targets, nodeRe
 ghost use Rattle.func.specs.Store.{view};
 ghost use Rattle.func.specs.Keep.{immsOf, opcodeOf};
 ghost use Rattle.lifting.specs.Ast.{const};
-ghost use Rattle.lifting.specs.Parts.{constOf, regionOf, nodeOf, opOf, nodeValues, nodeInsts, blockOps, childrenOf, outsOf, mergeControl, opInsts, ctrlInsts};
+ghost use Rattle.lifting.specs.Parts.{constOf, regionOf, nodeOf, opOf, nodeValues, nodeInsts, blockOps, childrenOf, outsOf, nodeControl, opInsts, ctrlInsts};
 ghost use Rattle.func.specs.Decode.{numberOf, declOf, immOf, valueFrom, valueOf, funcOf};
 ghost use Rattle.func.specs.Tables.{Tables, Within, paramOf, ctrlLine, entryOf};
 ghost use Rattle.func.specs.Search.{CtrlIs};
@@ -346,7 +346,7 @@ pub fn node_opcode(func: &[u32], n: usize) -> u32
 pub fn node_control(func: &[u32], n: usize) -> u32
     requires { ⌜ Tables (now func) ⌝ }
     requires { ⌜ n < length (funcOf (now func) .nodes) ⌝ }
-    ensures { λ x. ⌜ x ≡ mergeControl (nodeOf (funcOf (now (func .entry))) n) ⌝ }
+    ensures { λ x. ⌜ x ≡ nodeControl (nodeOf (funcOf (now (func .entry))) n) ⌝ }
 {
     word(func, NODES, n, 7)
 }

@@ -5,14 +5,13 @@
 --     ops-at                         the ops of a visited point
 use mathlib.Core.Path.{_≡_, refl, sym, ap, subst, _∙_}
 use mathlib.Core.Bool.{Bool, true, false}
-use mathlib.Core.List.{List, [], _∷_}
+use mathlib.Core.List.{List, []}
 use mathlib.Core.Option.{Option, none, some}
-use Prim.Native.Nat.{ℕ, zero, suc, _<_}
-use native.Mathlib.Omega.{arith}
+use Prim.Native.Nat.{ℕ, suc, _<_}
 use lib.ListN.{length}
 use Rattle.lifting.specs.Ast.{Func, Node, Value, block, exit, loop, select, ControlInst}
-use Rattle.lifting.specs.Parts.{blockOps, ctrlOf, ctrlValues, nodeOf, nodeValues, opList, regionOf, values}
-use Rattle.lifting.specs.Points.{CfgPoint, Terminator, nodeEntry, nodeExit, regionEntry, regionExit}
+use Rattle.lifting.specs.Parts.{blockOps, ctrlOf, nodeOf, nodeValues, opList, regionOf}
+use Rattle.lifting.specs.Points.{CfgPoint, nodeEntry, nodeExit, regionEntry, regionExit}
 use Rattle.lifting.specs.Walk.{Place, always, childTerm, exitTerm, inBlock, inNode, loopTerm, rootTerm, top, walkOf}
 use Rattle.lifting.specs.Absorb.{mergeLabels}
 use Rattle.func.specs.Decode.{funcOf}

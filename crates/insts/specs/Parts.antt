@@ -11,13 +11,14 @@ use Rattle.opcodes.specs.declared.InstKind.the-variants.{Label, LoopMerge, Phi,
 use Rattle.lifting.specs.Lists.{gather}
 use Rattle.lifting.specs.Ast.{Decl, Func, Imm, Value}
 use Rattle.lifting.specs.Parts.{calleeIds, opOf}
-use Rattle.lifting.specs.Points.{CfgPoint, Merge, Table, Terminator, loopMerge, mergeNumber, noMerge, regionEntry, selectionMerge}
+use Rattle.lifting.specs.Points.{CfgPoint, Merge, Table, Terminator, loopMerge, noMerge, regionEntry, selectionMerge}
 use Rattle.lifting.specs.Walk.{walkOf}
 use Rattle.lifting.specs.Absorb.{kept, mergeLabels}
 use Rattle.lifting.specs.Ids.{idOf, labelOf}
 use Rattle.lifting.specs.Instructions.{Instruction, bare, labelInst, loopControl, mergeInsts, opImms, opInst, opOpcode, pairs, phiInst, resultId, selectionControl, short, termImms, termInst, termOpcode}
 use Rattle.lifting.specs.Words.{immWords}
 use Rattle.flat.specs.Flat.{upTo}
+use Rattle.term.specs.Way.{mergeControl}
 use Rattle.put.specs.Put.{Item, id, word}
 use Rattle.put.specs.Items.{headItems, instItems, listItems}
 
@@ -134,14 +135,14 @@ module _ (F : Func) (first : ℕ) (T K : Table) where
   merge-none (loopMerge a b u) e = absurd (omega arith)
 
   pub merge-one : (g : Merge) → length (mergeLabels g) ≡ 1
-      → frontItems (opcodeOf SelectionMerge) 0 0 0 (short selectionControl (mergeNumber g)) 1 ++ labelItems (getD (mergeLabels g) 0 (regionEntry 0) ∷ []) ≡ listItems (mergeInsts F first T K g)
+      → frontItems (opcodeOf SelectionMerge) 0 0 0 (short selectionControl (mergeControl g)) 1 ++ labelItems (getD (mergeLabels g) 0 (regionEntry 0) ∷ []) ≡ listItems (mergeInsts F first T K g)
   unfolding mergeInsts listItems
   merge-one noMerge e = absurd (omega arith)
   merge-one (selectionMerge a u) e = sym (append-nil _ ∙ inst-front (bare (opcodeOf SelectionMerge) (short selectionControl u) (labelOf F first T K a ∷ [])))
   merge-one (loopMerge a b u) e = absurd (omega arith)
 
   pub merge-two : (g : Merge) → ¬ (length (mergeLabels g) ≡ 0) → ¬ (length (mergeLabels g) ≡ 1)
-      → frontItems (opcodeOf LoopMerge) 0 0 0 (short loopControl (mergeNumber g)) 2
+      → frontItems (opcodeOf LoopMerge) 0 0 0 (short loopControl (mergeControl g)) 2
       ++ (labelItems (getD (mergeLabels g) 0 (regionEntry 0) ∷ []) ++ labelItems (getD (mergeLabels g) 1 (regionEntry 0) ∷ []))
       ≡ listItems (mergeInsts F first T K g)
   unfolding mergeInsts listItems

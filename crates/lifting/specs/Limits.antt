@@ -45,9 +45,9 @@ maxOpcode = 65535
 abbrev pub maxImmKind : ℕ
 maxImmKind = 2
 
--- 4 a merge's control number is none of 0, 1 and 2 (document 02, W4)
-abbrev pub maxMergeControl : ℕ
-maxMergeControl = 2
+-- 4 a select's or loop's control number is none of 0, 1 and 2 (document 02, W4)
+abbrev pub maxControl : ℕ
+maxControl = 2
 
 -- 8 a scratch slice (function slice, work slice) under 16,384 words
 abbrev pub scratchWords : ℕ

@@ -45,11 +45,11 @@ outsOf (loop b c vs u) = []
 outsOf (exit i vs) = []
 
 -- the control number of its merge (document 02, W4), and 0 where it has no merge
-abbrev pub mergeControl : Node → ℕ
-mergeControl (block is) = 0
-mergeControl (select k v cs ds u) = u
-mergeControl (loop b c vs u) = u
-mergeControl (exit i vs) = 0
+abbrev pub nodeControl : Node → ℕ
+nodeControl (block is) = 0
+nodeControl (select k v cs ds u) = u
+nodeControl (loop b c vs u) = u
+nodeControl (exit i vs) = 0
 
 -- the inputs of a region and the outputs of a node, as values
 abbrev pub insKeys : Func → ℕ → List Value

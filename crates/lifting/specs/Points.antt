@@ -24,12 +24,6 @@ pub data Merge : Type 0 where
   selectionMerge : CfgPoint → ℕ → Merge
   loopMerge : CfgPoint → CfgPoint → ℕ → Merge
 
--- that number, and 0 where there is no merge
-abbrev pub mergeNumber : Merge → ℕ
-mergeNumber noMerge = 0
-mergeNumber (selectionMerge a u) = u
-mergeNumber (loopMerge a b u) = u
-
 -- the way out of a block; `vals` are the values for targets' phis
 pub record Terminator : Type 0 where
   pub attrs : ℕ

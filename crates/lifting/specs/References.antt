@@ -9,8 +9,8 @@ use lib.ListN.{length}
 use Rattle.opcodes.specs.Table.{table}
 use Rattle.lifting.specs.Lists.{every, within, distinct}
 use Rattle.lifting.specs.Ast.{Value, const, regionInput, nodeOutput, dataInstOutput, Imm, Inst, Node, Func}
-use Rattle.lifting.specs.Parts.{regionOf, nodeOf, opOf, outsOf, mergeControl, values, insts, nodeList, opList, childList, ctrlRegions, requiredIds}
-use Rattle.lifting.specs.Limits.{maxOpcode, maxImmKind, maxMergeControl}
+use Rattle.lifting.specs.Parts.{regionOf, nodeOf, opOf, outsOf, nodeControl, values, insts, nodeList, opList, childList, ctrlRegions, requiredIds}
+use Rattle.lifting.specs.Limits.{maxOpcode, maxImmKind, maxControl}
 
 -- A value names something: a constant, an input, a select's output, the result of an op that has one. A line that is not there holds nothing
 -- (Parts), so asking for its input, output or result also asks that it be there.
@@ -28,7 +28,7 @@ instFits i = leb (i .opcode) maxOpcode && not (within (i .opcode) table) && ever
 
 -- 0 none, 1 unroll or flatten, 2 don't; others are refused by 4 (document 02, W4)
 abbrev pub controlHolds : Node → Bool
-controlHolds n = leb (mergeControl n) maxMergeControl
+controlHolds n = leb (nodeControl n) maxControl
 
 -- A text passes 4.
 unfoldable pub referencesHold : Func → Bool

@@ -24,7 +24,7 @@ use Rattle.lines.specs.Tails.{ended, regionLists, regionTail, toRegion, 
 use Rattle.lines.specs.Keepers.{keepRegionLists, keepLoopLists, keepInstValues, keepSelectLists, keepNodeLists, keepOpLists, region-row, block-row, loop-row, exit-row, selectNumber, selectOpcode, select-bool, select-inst, rest-refused, rest-denied, rest-row, kindOf, op-inst, op-row}
 
 -- a loop's lists, as those of a loop that waits for its control number
-abbrev pub keepLoop : (ℕ → Node) → List ℕ → List ℕ
+abbrev keepLoop : (ℕ → Node) → List ℕ → List ℕ
 keepLoop g w = folds keepValue (nodeValues (g 0)) w
 
 pub loop-lists : (r : ℕ) {text : List ℕ} {at : ℕ} {found : Option (Unit {0} × ℕ)} {w u : List ℕ} → Stores (loopLists .read) keepLoopLists text at found w u

@@ -70,12 +70,12 @@ nodeTail Exit = exitTail
 abbrev instOf : ℕ → List Imm → Inst
 instOf n is = record { opcode = n; imms = is }
 
--- each line behind its word, as the fields alone
 -- lists behind a head, and the control number last
 lists-alike : {A B : Type 0} (C : Codec A) (L : Codec B) (t : List ℕ) → ended (closed (seq C (seq L field))) .read t ≡ seq C (seq L control) .read t
 unfolding control
 lists-alike C L t = last-alike (seq C (seq L field)) t ∙ last-seq C (seq L field) t ∙ second-alike C _ _ (last-seq L field) t
 
+-- each line behind its word, as the fields alone
 select-begins : Begins selectLine (lit (bytes "(select") refl) (λ u. seq selKind (seq selectLists control) .read)
 unfolding selectLine selectLists selectForms
 select-begins = begins-alike (begins-line "select" (closed (seq selKind (seq selectLists field)))) (λ u. lists-alike selKind selectLists)

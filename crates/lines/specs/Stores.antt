@@ -138,18 +138,18 @@ module _ {A X S : Type 0} (head : List ℕ → Reading X) (tail : X → List ℕ
   head-denied p = record { is = ap (λ (o : Reading X). stored k w (goOn o tail)) (p .is); moves = tt }
 
 -- what is read first waits for D, which is only read, and then the row of both is stored
-abbrev pub waits : {A B X : Type 0} → (List ℕ → Reading X) → (X → B → A) → Codec B → List ℕ → Reading A
-waits read f D t = goOn (then (read t) (up f)) (λ g r. then (D .read r) (up g))
+abbrev pub waits : {A B : Type 0} → Codec B → Reading (B → A) → Reading A
+waits D o = goOn o (λ g r. then (D .read r) (up g))
 
 module _ {A B X S : Type 0} (read : List ℕ → Reading X) (f : X → B → A) (D : Codec B) {l : (B → A) → S → S} {text : List ℕ} {at : ℕ} {w u : S} where
   behind : {mid : ℕ} → Stores (λ t. then (read t) (up f)) l text at (some (tt, mid)) w u
-      → (x : X) × (waits read f D (drop at text) ≡ then (D .read (drop mid text)) (up (f x))) × (l (f x) w ≡ u)
+      → (x : X) × (waits D (then (read (drop at text)) (up f)) ≡ then (D .read (drop mid text)) (up (f x))) × (l (f x) w ≡ u)
   behind s =
       let t = taken (as-down read f s) in
-      (t .0, ap (λ (o : Reading X). goOn (then o (up f)) (λ g r. then (D .read r) (up g))) (t .1), t .2)
+      (t .0, ap (λ (o : Reading X). waits D (then o (up f))) (t .1), t .2)
 
   pub waits-row : {k : A → S → S} {v : S} {b : B} {mid next : ℕ} (row : B → S → S) → ((x : X) → k (f x b) w ≡ row b (l (f x) w)) → Stores (λ t. then (read t) (up f)) l text at (some (tt, mid)) w u
-      → Took (D .read) text mid b next → v ≡ row b u → Stores (waits read f D) k text at (some (tt, next)) w v
+      → Took (D .read) text mid b next → v ≡ row b u → Stores (λ t. waits D (then (read t) (up f))) k text at (some (tt, next)) w v
   waits-row {k} {b = b} {next = next} row is s t e =
       let p = behind s in
       record {
@@ -157,13 +157,13 @@ module _ {A B X S : Type 0} (read : List ℕ → Reading X) (f : X → B → A) 
         moves = onward {A = Unit {0}} text (s .moves .moved) (some (tt, next)) (t .moves);
       }
 
-  pub waits-denied : {k : A → S → S} {v : S} {mid : ℕ} → Stores (λ t. then (read t) (up f)) l text at (some (tt, mid)) w u → Denied (D .read) text mid → Stores (waits read f D) k text at none w v
+  pub waits-denied : {k : A → S → S} {v : S} {mid : ℕ} → Stores (λ t. then (read t) (up f)) l text at (some (tt, mid)) w u → Denied (D .read) text mid → Stores (λ t. waits D (then (read t) (up f))) k text at none w v
   waits-denied {k} s t =
       let p = behind s in
       record { is = ap (stored k w) (p .1 ∙ ap (λ (o : Reading B). then o (up (f (p .0)))) (t .is)); moves = tt }
 
-  pub waits-refused : {k : A → S → S} {v : S} → Stores (λ t. then (read t) (up f)) l text at none w u → Stores (waits read f D) k text at none w v
-  waits-refused {k} s = record { is = ap (λ (o : Reading (B → A)). stored k w (goOn o (λ g r. then (D .read r) (up g)))) (refused s); moves = tt }
+  pub waits-refused : {k : A → S → S} {v : S} → Stores (λ t. then (read t) (up f)) l text at none w u → Stores (λ t. waits D (then (read t) (up f))) k text at none w v
+  waits-refused {k} s = record { is = ap (λ (o : Reading (B → A)). stored k w (waits D o)) (refused s); moves = tt }
 
 -- one after the other
 module _ {A B S : Type 0} (C : Codec A) (D : Codec B) {text : List ℕ} {at : ℕ} where

@@ -17,6 +17,7 @@ use Rattle.lifting.specs.Grammar.{before, after, sub, closed, line, field, two,
 use Rattle.cursor.specs.Begins.{goOn, Begins, then-nothing}
 use Rattle.cursor.specs.Heads as heads
 use Rattle.cursor.specs.Heads.{instHead, opHead, op-begins, selectionHead}
+use Rattle.lines.specs.Stores.{waits}
 use Rattle.cursor.specs.declared.OpKind.{OpKind}
 use Rattle.cursor.specs.declared.OpKind.the-variants as op
 use Rattle.cursor.specs.declared.Op.{Op}
@@ -161,7 +162,7 @@ unfoldable pub control : Codec ℕ
 control = lastForm field
 
 abbrev pub controlled : Reading (ℕ → Node) → Reading Node
-controlled o = goOn o (λ n t. then (control .read t) (up n))
+controlled = waits control
 
 -- `(loop R V (init V..) U)`
 unfoldable pub loopLists : Codec (Value × List Value)

@@ -10,7 +10,7 @@ use lib.Dec.{leb, ltb, eqb, lit<}
 use lib.ListN.{length, getD, List·getD-eq-default}
 use borrow.Author.Tests.{ltb-true, ltb-false, lt-ltb, le-ltb, eqb-true, eqb-false, eq-eqb, ne-eqb}
 use Rattle.lifting.specs.Lists.{every, gather, keys, distinct}
-use Rattle.lifting.specs.Limits.{maxOpcode, maxMergeControl, withinLimits}
+use Rattle.lifting.specs.Limits.{maxOpcode, maxControl, withinLimits}
 use Rattle.lifting.specs.Ast.{Value, const, regionInput, nodeOutput, dataInstOutput, Inst, DataInstKind, inst, call, ext, Op, boolCond, spvInst, Node, block, select, loop, exit, Region, ControlInst, Func}
 use Rattle.lifting.specs.Parts.{outsOf, nodeInsts, opInsts, ctrlInsts, calleeIds}
 use Rattle.lifting.specs.Parts as text
@@ -163,7 +163,7 @@ module _ {F : Func} {w : List ℕ} (s : Stored F w) (limits : withinLimits F ≡
 
   node-controls : allTest w NodeControl ≡ every controlHolds (F .nodes)
   unfolding allTest nodeCells
-  node-controls = every-each (ruleTest w NodeControl) controlHolds (λ e n r. ap (λ (u : ℕ). leb u maxMergeControl) (r .cell 7 (lit< tt))) (s .rows .nodes (fit .fits NodeControl))
+  node-controls = every-each (ruleTest w NodeControl) controlHolds (λ e n r. ap (λ (u : ℕ). leb u maxControl) (r .cell 7 (lit< tt))) (s .rows .nodes (fit .fits NodeControl))
 
   op-insts : allTest w OpInst ≡ every fits (gather (λ o. opInsts (o .kind)) (F .ops))
   unfolding allTest opCells fits

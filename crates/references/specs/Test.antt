@@ -9,7 +9,7 @@ use lib.Dec.{leb, ltb, eqb}
 use lib.ListN.{getD}
 use Rattle.opcodes.specs.Table.{table}
 use Rattle.lifting.specs.Lists.{every, within, distinct}
-use Rattle.lifting.specs.Limits.{maxRegions, maxNodes, maxOps, maxConsts, maxParams, maxValues, maxDecls, maxImmediates, maxTargets, maxOpcode, maxMergeControl}
+use Rattle.lifting.specs.Limits.{maxRegions, maxNodes, maxOps, maxConsts, maxParams, maxValues, maxDecls, maxImmediates, maxTargets, maxOpcode, maxControl}
 use Rattle.lifting.specs.Ast.{Value, const, regionInput, nodeOutput, dataInstOutput}
 use Rattle.lifting.specs.References.{immFits}
 use Rattle.func.specs.Layout.{consts, params, decls, values, imms, targets, nodeRefs, opRefs, childRefs, entries, regions, nodes, ops, ctrls}
@@ -73,7 +73,7 @@ ruleTest w DeclType e = ltb 0 (getD e 1 0)
 ruleTest w Callee e = calleeTest (getD e 2 0) (getD e 3 0)
 ruleTest w ConstOpcode e = leb (getD e 1 0) maxOpcode
 ruleTest w ImmFits e = immFits (immOf e)
-ruleTest w NodeControl e = leb (getD e 7 0) maxMergeControl
+ruleTest w NodeControl e = leb (getD e 7 0) maxControl
 ruleTest w NodeInst e = opcodeFits (getD e 1 0)
 ruleTest w OpInst e = opInstTest (getD e 2 0) (getD e 3 0)
 

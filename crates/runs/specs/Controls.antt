@@ -1,5 +1,6 @@
 -- Document 02, W4: execution never depends on the control numbers of merges. Two functions that differ in them only have the same region run, step by
--- step. So, by demand 3, the regions of one run as the blocks of the other's list do, and the blocks of their two lists run alike. Assumes nothing.
+-- step, in any world. So, by demand 3, in each world where constants of opcode 41 are true the regions of one run as the blocks of the other's list
+-- do, and the blocks of their two lists run alike. Assumes nothing.
 use mathlib.Core.Path.{_≡_, refl, sym, ap, _∙_, subst}
 use mathlib.Core.Bool.{true}
 use mathlib.Core.List.{List, [], _∷_, map}

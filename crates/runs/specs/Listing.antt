@@ -18,7 +18,7 @@ use Rattle.lifting.specs.Points.{BlockLifting, CfgPoint, Merge, Table, Terminat
 use Rattle.lifting.specs.Ids.{idOf, labelOf}
 use Rattle.lifting.specs.Instructions.{Instruction, blockInsts, bodyInsts, endInst, functionInst, instructions, labelInst, mergeInsts, opInst, opOpcode, paramInst, paramInsts, phiInst, phiInsts, termInst, termOpcode}
 use Rattle.lifting.specs.BlockRun.{Parts, addPart, consIf, isKind, isMerge, paramsIn, parts, phisOf, runOf}
-use Rattle.runs.specs.Members.{All, all-append, all-left, all-right}
+use Rattle.runs.specs.Members.{All, all-append, all-left, all-right, all-from, all-in}
 use Rattle.runs.specs.Accepted.{FreeKind, FreeOp}
 use Rattle.runs.specs.Simulation.{rest}
 
@@ -90,7 +90,7 @@ PhiLike i = isKind Phi i ≡ true
 abbrev MergeLike : Instruction → Type 0
 MergeLike i = (isKind Phi i ≡ false) × (isMerge i ≡ true)
 
-abbrev pub OpLike : Instruction → Type 0
+abbrev OpLike : Instruction → Type 0
 OpLike i = (isKind Phi i ≡ false) × (isMerge i ≡ false)
 
 over-phis : (l r : List Instruction) → All PhiLike l → (phisAll (l ++ r) ≡ l ++ phisAll r) × (runAll (l ++ r) ≡ runAll r)
@@ -172,7 +172,7 @@ module _ (F : Func) (first : ℕ) (T K : Table) where
   abbrev pub FreeOps : List ℕ → Type 0
   FreeOps is = All (λ (i : ℕ). FreeOp (opOf F i .kind)) is
 
-  pub ops-fine : (is : List ℕ) → FreeOps is → All (λ (e : Instruction). Inside e × OpLike e) (map (opInst F first T K) is)
+  ops-fine : (is : List ℕ) → FreeOps is → All (λ (e : Instruction). Inside e × OpLike e) (map (opInst F first T K) is)
   unfolding opInst
   ops-fine [] h = tt
   ops-fine (i ∷ is) h = (one-op (opInst F first T K i) (opOf F i .kind) refl (h .0), ops-fine is (h .1))
@@ -192,13 +192,20 @@ module _ (F : Func) (first : ℕ) (T K : Table) where
   one-way e (selectBranch (spvInst i)) vs q h = free-fine e (ap (λ (n : ℕ). within n table) q ∙ h)
   one-way e (exitInvocation i) vs q h = free-fine e (ap (λ (n : ℕ). within n table) q ∙ h)
 
-  pub term-fine : (t : Terminator) → FreeKind (t .kind) → Inside (termInst F first T K t) × OpLike (termInst F first T K t)
+  term-fine : (t : Terminator) → FreeKind (t .kind) → Inside (termInst F first T K t) × OpLike (termInst F first T K t)
   unfolding termInst
   term-fine t h = one-way (termInst F first T K t) (t .kind) (t .ins) refl h
 
   -- 4, of one block
   abbrev pub Free : BlockLifting → Type 0
   Free b = FreeOps (b .ops) × FreeKind (b .term .kind)
+
+  -- so none of a block's ops is a merge, nor is its way out
+  pub no-merges : (b : BlockLifting) → Free b → All (λ (e : Instruction). isMerge e ≡ false) (map (opInst F first T K) (b .ops)) × (isMerge (termInst F first T K (b .term)) ≡ false)
+  no-merges b h = (
+    all-from _ (map (opInst F first T K) (b .ops)) (λ e i. all-in _ (map (opInst F first T K) (b .ops)) (ops-fine (b .ops) (h .0)) e i .1 .1),
+    term-fine (b .term) (h .1) .1 .1,
+  )
 
   abbrev phis : CfgPoint → BlockLifting → List Instruction
   phis q b = phiInsts F first T K q (b .keys) (b .decls) 0

@@ -12,8 +12,8 @@ use borrow.Author.Tests.{leb-true, ltb-true, not-true}
 use Rattle.opcodes.specs.Table.{table}
 use Rattle.lifting.specs.Lists.{gather, within, keys}
 use Rattle.lifting.specs.Ast.{Value, Inst, Op, Region, ControlInst, Node, Const, Func}
-use Rattle.lifting.specs.Parts.{regionOf, nodeOf, opOf, ctrlOf, childrenOf, mergeControl, nodeValues, ctrlValues, values, nodeInsts, opInsts, ctrlInsts, insts, nodeList, opList, childList, ctrlRegions, requiredIds}
-use Rattle.lifting.specs.Limits.{maxOpcode, maxMergeControl}
+use Rattle.lifting.specs.Parts.{regionOf, nodeOf, opOf, ctrlOf, childrenOf, nodeControl, nodeValues, ctrlValues, values, nodeInsts, opInsts, ctrlInsts, insts, nodeList, opList, childList, ctrlRegions, requiredIds}
+use Rattle.lifting.specs.Limits.{maxOpcode, maxControl}
 use Rattle.lifting.specs.References.{named, instFits, controlHolds, referencesHold}
 use Rattle.runs.specs.Members.{All, NoDup}
 use Rattle.runs.specs.Accepted.{FreeInst}
@@ -34,7 +34,7 @@ pub record Refers (F : Func) : Type 0 where
   pub targets-below : (r : ℕ) {c : ControlInst} → ctrlOf F r ≡ some c → All (λ s. s < length (F .regions)) (c .to)
   pub ids-above : All (λ x. 0 < x) (requiredIds F)
   pub consts-once : NoDup (map (λ (c : Const). c .id) (F .consts))
-  pub node-control : (n : ℕ) → mergeControl (nodeOf F n) ≤ maxMergeControl
+  pub node-control : (n : ℕ) → nodeControl (nodeOf F n) ≤ maxControl
   pub node-free : (n : ℕ) → All FreeInst (nodeInsts (nodeOf F n))
   pub op-free : (i : ℕ) → All FreeInst (opInsts (opOf F i .kind))
   pub ctrl-free : (r : ℕ) {c : ControlInst} → ctrlOf F r ≡ some c → All FreeInst (ctrlInsts (c .kind))
@@ -74,7 +74,7 @@ refers F e =
       targets-below = λ r {c} f. all-split _ (c .to) (keys (c .vals)) (all-entry ℕ-discrete _ _ (F .ctrls) (regions-below .1) r f .1) .0;
       ids-above = every-all (ltb 0) _ (ltb-true 0) (requiredIds F) (ids-given .1);
       consts-once = distinct-once (map (λ (c : Const). c .id) (F .consts)) (consts-differ .1);
-      node-control = all-at (λ (d : Node). mergeControl d ≤ maxMergeControl) (F .nodes) (every-all controlHolds _ (λ d t. leb-true (mergeControl d) maxMergeControl t) (F .nodes) (controls-hold .1)) _ (omega arith);
+      node-control = all-at (λ (d : Node). nodeControl d ≤ maxControl) (F .nodes) (every-all controlHolds _ (λ d t. leb-true (nodeControl d) maxControl t) (F .nodes) (controls-hold .1)) _ (omega arith);
       node-free = all-line FreeInst nodeInsts (F .nodes) (of-nodes .0) _ refl;
       op-free = all-line FreeInst op-insts (F .ops) (of-ops .0) _ refl;
       ctrl-free = all-entry ℕ-discrete FreeInst (λ c. ctrlInsts (c .1 .kind)) (F .ctrls) (of-ops .1);

@@ -10,7 +10,6 @@ use Prim.Native.Nat.{ℕ, _+_, _*_}
 use native.Mathlib.Omega.{arith}
 use lib.Dec.{eqb}
 use lib.ListN.{length, replicate}
-use Rattle.lifting.specs.Ast.{Func}
 use Rattle.lifting.specs.Answer.{Answer, Parsed, denied, listed, parse, parsed, refused, zerosUnless8}
 use Rattle.checks.specs.declared.Refusal.{Refusal}
 use Rattle.checks.specs.declared.Refusal.the-variants.{Long, Forms, Limits, References, Tree, Counts, Control, Scratch, Targets}

@@ -17,7 +17,7 @@ use Rattle.runs.specs.Refers.{Refers}
 use Rattle.runs.specs.Shaped.{Shaped}
 use Rattle.flat.specs.Chain.{chain-all}
 use Rattle.flat.specs.Steps.{Step, step-entry, step-exit, step-in, step-out, walk-steps}
-use Rattle.flat.specs.Totals.{allLabels, total}
+use Rattle.flat.specs.Totals.{allLabels}
 use Rattle.sizes.specs.Sums.{length-gather, total-find, total-keys, total-le, total-lines, total-ones, total-plus, weighed}
 use Rattle.sizes.specs.Lines.{below-once, child-lines, points-within}
 

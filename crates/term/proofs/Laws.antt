@@ -12,7 +12,7 @@ use lib.Dec.{eqb}
 use lib.ListN.{length, getD}
 use borrow.Author.Tests.{eq-eqb, ne-eqb, lt-ltb, le-ltb}
 use Rattle.lifting.specs.Ast.{ControlInst, Decl, Func, Node, Value, block, boolCond, const, exit, loop, nodeOutput, regionInput, select, spvInst}
-use Rattle.lifting.specs.Parts.{childrenOf, mergeControl, nodeOf, nodeValues, outKeys, regionOf}
+use Rattle.lifting.specs.Parts.{childrenOf, nodeControl, nodeOf, nodeValues, outKeys, regionOf}
 use Rattle.lifting.specs.Points.{BlockLifting, CfgPoint, Terminator, noMerge, selectionMerge, nodeEntry, nodeExit, regionEntry, regionExit, straight}
 use Rattle.lifting.specs.Walk.{Place, always, childTerm, entryKeys, exitTerm, inBlock, inNode, loopTerm, rootTerm, top, walkOf}
 use Rattle.func.specs.declared.NodeKind.{NodeKind}
@@ -243,9 +243,9 @@ module _ (F : Func) where
 
   abbrev InWay : Node → ℕ → NodeKind → Type 0
   InWay d n Block = inBlock F d n .term ≡ straight (nodeExit n)
-  InWay d n SelectBool = inBlock F d n .term ≡ selectTerm d n (mergeControl d)
-  InWay d n SelectInst = inBlock F d n .term ≡ selectTerm d n (mergeControl d)
-  InWay d n Loop = (0 < length (childrenOf d)) × (inBlock F d n .term ≡ loopIn n (getD (childrenOf d) 0 0) (mergeControl d))
+  InWay d n SelectBool = inBlock F d n .term ≡ selectTerm d n (nodeControl d)
+  InWay d n SelectInst = inBlock F d n .term ≡ selectTerm d n (nodeControl d)
+  InWay d n Loop = (0 < length (childrenOf d)) × (inBlock F d n .term ≡ loopIn n (getD (childrenOf d) 0 0) (nodeControl d))
   InWay d n Exit = inBlock F d n .term ≡ leaveTerm d n
 
   in-term : (d : Node) (n : ℕ) → InWay d n (nodeKind d)
@@ -271,8 +271,8 @@ module _ {w : List ℕ} (t : Tables w) {n : ℕ} (h : n < length (funcOf w .node
   }
 
   -- a select has its control number
-  pub select-way : inBlock (funcOf w) (nodeOf (funcOf w) n) n .term ≡ selectTerm (funcOf w) (nodeOf (funcOf w) n) n (mergeControl (nodeOf (funcOf w) n))
-      → {u : ℕ} → u ≡ mergeControl (nodeOf (funcOf w) n) → WayIs (funcOf w) (inBlock (funcOf w) (nodeOf (funcOf w) n) n .term) (SelectWay n u)
+  pub select-way : inBlock (funcOf w) (nodeOf (funcOf w) n) n .term ≡ selectTerm (funcOf w) (nodeOf (funcOf w) n) n (nodeControl (nodeOf (funcOf w) n))
+      → {u : ℕ} → u ≡ nodeControl (nodeOf (funcOf w) n) → WayIs (funcOf w) (inBlock (funcOf w) (nodeOf (funcOf w) n) n .term) (SelectWay n u)
   select-way e q = record { is = e ∙ ap (selectTerm (funcOf w) (nodeOf (funcOf w) n) n) (sym q); fits = h }
 
   -- a loop goes into its body
@@ -280,7 +280,7 @@ module _ {w : List ℕ} (t : Tables w) {n : ℕ} (h : n < length (funcOf w .node
     pub loop-holds : 0 < length (childrenOf (nodeOf (funcOf w) n))
     loop-holds = in-way (funcOf w) (nodeOf (funcOf w) n) n e g .0
 
-    pub loop-way : Walkable (funcOf w) → {b u : ℕ} → b ≡ getD (childrenOf (nodeOf (funcOf w) n)) 0 0 → u ≡ mergeControl (nodeOf (funcOf w) n)
+    pub loop-way : Walkable (funcOf w) → {b u : ℕ} → b ≡ getD (childrenOf (nodeOf (funcOf w) n)) 0 0 → u ≡ nodeControl (nodeOf (funcOf w) n)
         → WayIs (funcOf w) (inBlock (funcOf w) (nodeOf (funcOf w) n) n .term) (LoopWay n b u)
     loop-way ok q z = record {
       is = in-way (funcOf w) (nodeOf (funcOf w) n) n e g .1 ∙ ap₂ (loopIn (funcOf w) n) (sym q) (sym z);

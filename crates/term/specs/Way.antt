@@ -44,6 +44,12 @@ wayMerge (Join n r) = noMerge
 wayMerge (Repeat n r) = noMerge
 wayMerge (Test n r) = noMerge
 
+-- the control number of a merge, and 0 where there is none
+abbrev pub mergeControl : Merge → ℕ
+mergeControl noMerge = 0
+mergeControl (selectionMerge a u) = u
+mergeControl (loopMerge a b u) = u
+
 abbrev pub isLoop : Node → Bool
 isLoop (block is) = false
 isLoop (select k v cs ds u) = false

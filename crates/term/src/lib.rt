@@ -35,7 +35,7 @@ pub enum Point {
 
 // A way out: straight to a point by its number; a return from a root that has no ctrl line; a ctrl line; from node n, an exit or a select;
 // from loop n into its body; from region r of node n, past a select, back to a loop's start, or back or out. A select and a loop have the control
-// word of their merge.
+// number of their merge.
 pub enum Way {
     Straight(usize),
     Return(usize),

@@ -20,13 +20,13 @@ ghost use mathlib.Core.List.{[], _∷_};
 ghost use Prim.Native.Nat.{_≤_, _<_};
 ghost use lib.ListN.{length, getD};
 ghost use Rattle.lifting.specs.Parts.{regionOf};
-ghost use Rattle.lifting.specs.Points.{mergeNumber, nodeEntry, nodeExit, regionEntry, regionExit};
+ghost use Rattle.lifting.specs.Points.{nodeEntry, nodeExit, regionEntry, regionExit};
 ghost use Rattle.lifting.specs.Absorb.{mergeLabels, soleTarget};
 ghost use Rattle.func.specs.Decode.{funcOf};
 ghost use Rattle.func.specs.Tables.{Tables, ctrlLine};
 ghost use Rattle.points.specs.Numbers.{pointNumber};
 ghost use Rattle.points.specs.Walk.{Walkable};
-ghost use Rattle.term.specs.Way.{Known, asSole, bareSole, isBranch, lineTerm, wayMerge, wayTerm};
+ghost use Rattle.term.specs.Way.{Known, asSole, bareSole, isBranch, lineTerm, mergeControl, wayMerge, wayTerm};
 
 // How many merge labels a way out has.
 pub fn merges(w: Way) -> usize
@@ -47,7 +47,7 @@ pub fn merges(w: Way) -> usize
 
 // The control number of its merge, 0 without one.
 pub fn merge_control(w: Way) -> u32
-    ensures { λ x. ⌜ x ≡ mergeNumber (wayMerge w) ⌝ }
+    ensures { λ x. ⌜ x ≡ mergeControl (wayMerge w) ⌝ }
 {
     match w {
         Way::Straight(_) => 0,

@@ -2,7 +2,7 @@
 use mathlib.Core.Path.{ap, _∙_}
 use lib.Dec.{ltb, leb}
 use borrow.Author.Needs.{needs}
-use Rattle.lifting.specs.Limits.{maxOpcode, maxMergeControl}
+use Rattle.lifting.specs.Limits.{maxOpcode, maxControl}
 use Rattle.lifting.specs.References.{immFits}
 use Rattle.references.specs.Test.{opcodeFits, namedTest, calleeTest, opInstTest}
 use Rattle.references.proofs.Laws.{rule-as, rule-in}
@@ -67,7 +67,7 @@ returns-7 : tie.Need-returns-7
 returns-7 c = rule-as _ _ (c .before .before .enum-told7 .given .1) (c .imm-fits .ensures ∙ ap immFits (c .before .imm .ensures))
 
 returns-8 : tie.Need-returns-8
-returns-8 c = rule-as _ _ (c .before .enum-told8 .given .1) (ap (λ n. leb n maxMergeControl) (c .row-control .ensures))
+returns-8 c = rule-as _ _ (c .before .enum-told8 .given .1) (ap (λ n. leb n maxControl) (c .row-control .ensures))
 
 returns-9 : tie.Need-returns-9
 returns-9 c = rule-as _ _ (c .before .before .enum-told9 .given .1) (c .opcode-fits .ensures ∙ ap opcodeFits (c .before .row-opcode .ensures))
