@@ -48,7 +48,7 @@ def answered(case, answer):
     return b'(refused 9)\n' if above else answer
 
 
-def given(folder, start=''):
+def answered_batch(folder, start=''):
     """The inputs of a batch, each with the answer that the folder holds."""
     return zip(*(split(read(os.path.join(folder, start + name))) for name in ['cases.batch', 'answers.batch']), strict=True)
 
@@ -56,8 +56,8 @@ def given(folder, start=''):
 def vectors(folder):
     """The inputs of a folder's cases.batch, each with its answer; answers.batch holds document 01's. Then those of the folder `requests` in it, which have
     the requests in force."""
-    cases = [(numbered(case), answer) for case, answer in given(folder)]
-    return [(case, answered(case, answer)) for case, answer in cases] + [*given(os.path.join(folder, 'requests'), 'lift.')]
+    cases = [(numbered(case), answer) for case, answer in answered_batch(folder)]
+    return [(case, answered(case, answer)) for case, answer in cases] + [*answered_batch(os.path.join(folder, 'requests'), 'lift.')]
 
 
 def rows():

@@ -206,7 +206,7 @@ fn numbered(case: Case) -> impl Iterator<Item = Case> {
 }
 
 /// Every skeleton up to 4 nodes, without control numbers: as it is, with loops that never end, and
-/// with ops. Then every one up to 3 nodes with every choice of control numbers.
+/// with ops. Then every one up to 3 nodes with every other choice of control numbers.
 pub fn all_skeletons() -> impl Iterator<Item = Case> {
     let plain = Filling { opcode: 43, ops: false };
     [plain, Filling { opcode: 41, ..plain }, Filling { ops: true, ..plain }]
