@@ -1,57 +1,25 @@
-"""What the comparing scripts share: running the programs and judging answers."""
+"""What the comparing scripts share: judging answers, and all that tools/batch.py has."""
+import collections, os, sys
 
-import collections
-import os
-import subprocess
-import sys
-
-HERE = os.path.dirname(os.path.abspath(__file__))
-END = b"%%\n"
+sys.path.insert(0, os.path.join(os.path.dirname(os.path.dirname(os.path.abspath(__file__))), 'tools'))
+from batch import FIXED, ROOT, WHOLE_KINDS, build, generated, joined, lifted_by_rust, numbers, oracle, random_kinds, read, referred, split, stored, write
 
 
-def build(*packages):
-    """All but what links the static library, or the packages named."""
-    chosen = [part for package in packages for part in ("-p", package)]
-    command = ["cargo", "build", "--release", "--offline", "-q", "-j1", *chosen]
-    subprocess.run(command, cwd=HERE, check=True)
+def as_refused(answer):
+    """What document 01 answers where the Rust gives this: it refuses with 10 where the Rust panics."""
+    return answer.replace(b'(panicked)', b'(refused 10)')
 
 
-def program(name):
-    return os.path.join(HERE, "target", "release", name)
-
-
-def run(command, data=b"", **options):
-    return subprocess.run(command, input=data, stdout=subprocess.PIPE, check=True, **options).stdout
-
-
-def split(batch):
-    parts = batch.split(END)
-    if parts.pop():
-        sys.exit("a batch must end with a line %%")
-    return parts
-
-
-def random_kinds():
-    """The kinds of the generator that have a seed."""
-    return run([program("generate"), "--kinds"]).decode().split()
-
-
-def generated(kind, *numbers):
-    return run([program("generate"), kind, *map(str, numbers)])
-
-
-def answers(command, batch, **options):
-    found = split(run(command, batch, **options))
-    if len(found) != batch.count(END):
-        sys.exit(f"{command}: {len(found)} answers for {batch.count(END)} cases")
-    return found
+def ours_alone(answer):
+    """Whether a refusal has no counterpart in the Rust."""
+    return answer.startswith(b'(refused') and answer != b'(refused 10)\n'
 
 
 def kind_of(answer):
     """A list, or the word of another answer."""
-    text = answer.decode(errors="replace").strip()
+    text = answer.decode(errors='replace').strip()
     opcode = text[1:2]
-    return "a list" if opcode.isdigit() else text.split("\n")[0] or "nothing"
+    return 'a list' if opcode.isdigit() else text.split('\n')[0] or 'nothing'
 
 
 def report(cases, pairs, first=3):
@@ -63,13 +31,9 @@ def report(cases, pairs, first=3):
         if expected != given:
             differences.append((case, expected, given))
     for (expected, given, same), count in sorted(counts.items()):
-        verdict = "equal" if same else "DIFFERENT"
-        print(f"  {count:8} expected {expected}, given {given}: {verdict}")
-    for case, expected, given in sorted(differences, key=lambda d: len(d[0]))[:first]:
-        print("difference, input:")
-        print(case.decode(errors="replace"), end="")
-        print("expected:")
-        print(expected.decode(errors="replace"), end="")
-        print("given:")
-        print(given.decode(errors="replace"), end="")
+        verdict = 'equal' if same else 'DIFFERENT'
+        print(f'  {count:8} expected {expected}, given {given}: {verdict}')
+    for parts in sorted(differences, key=lambda d: len(d[0]))[:first]:
+        for what, part in zip(['difference, input:', 'expected:', 'given:'], parts):
+            print(what, part.decode(errors='replace'), sep='\n', end='')
     return len(differences)

@@ -4,54 +4,26 @@ use mathlib.Core.List.{List, [], _∷_, _++_, append-assoc, append-nil}
 use Prim.Native.Nat.{ℕ, _+_, _*_, _≤_, _<_}
 use native.Mathlib.Numerals.{add-one}
 use native.Mathlib.Omega.{arith}
-use lib.ListN.{getD, length, length-append, length-set, length-take, set, take}
-use lib.Seq.{getD-set-other, getD-set-same, take-length, take-suc}
-use native.Mathlib.Decide.{ℕ-discrete}
+use lib.ListN.{getD, length, length-append, length-take, set, take}
+use lib.Seq.{getD-set-other, take-length, take-suc}
 use Rattle.lifting.specs.Ast.{Func}
 use Rattle.lifting.specs.Points.{CfgPoint, regionEntry}
 use Rattle.lifting.specs.Walk.{walkOf}
 use Rattle.lifting.specs.Absorb.{labels}
 use Rattle.func.specs.Decode.{funcOf}
-use Rattle.runs.specs.Members.{in-getD}
-use Rattle.runs.specs.Shaped.{walk-first}
-use Rattle.control.specs.Tables.{split}
-use Rattle.flat.specs.Totals.{firstPoint, usesOf}
-use Rattle.points.specs.Numbers.{Small, number-low, pointNumber}
-use Rattle.points.specs.Walk.{Walkable}
-use Rattle.term.specs.At.{blockAt}
-use Rattle.term.specs.Visited.{Visited, label-small, visited-below}
-use Rattle.blocks.specs.Aside.{Aside, aside-more, aside-none, aside-set}
-use Rattle.blocks.specs.Uses.{Tallied, Tally, tally-low, tally-more, uses-all, uses-next, uses-none, usesAt, usesEnd, usesTo}
+use Rattle.laws.specs.Members.{in-getD}
+use Rattle.lifting_runs.specs.Shaped.{walk-first}
+use Rattle.work.specs.Layout.{usesAt, usesEnd}
+use Rattle.work.specs.Aside.{Aside, aside-none, aside-set, aside-more}
+use Rattle.lifting_blocks.specs.Totals.{firstPoint, usesOf}
+use Rattle.walk_points.specs.Numbers.{Small, number-low, pointNumber}
+use Rattle.walk_points.specs.Walk.{Walkable}
+use Rattle.terminators.specs.At.{blockAt}
+use Rattle.terminators.specs.Visited.{Visited, label-small, visited-below}
+use Rattle.blocks.specs.Uses.{Tallied, Tally, tally-low, tally-more, uses-all, uses-next, uses-none, usesTo}
 
 pub visited-aside : {w u v : List ℕ} {m : ℕ} → Visited w u m → Aside usesAt usesEnd u v → length v ≡ length u → Visited w v m
 visited-aside k s l = visited-below k (λ x h. s .before x (omega arith)) l
-
--- ---- the words are cleared
-
-pub record Clearing (w : List ℕ) (i : ℕ) (work : List ℕ) : Type 0 where
-  pub size : usesEnd ≤ length w
-  pub below : i ≤ 512
-  pub same : length work ≡ length w
-  pub aside : Aside usesAt usesEnd w work
-  pub words : (q : ℕ) → q < i → getD work (usesAt + q) 0 ≡ 0
-
-pub clear-first : {w : List ℕ} → usesEnd ≤ length w → Clearing w 0 w
-clear-first {w} z = record { size = z; below = omega arith; same = refl; aside = aside-none usesAt usesEnd w; words = λ q h. absurd (omega arith) }
-
-module _ {w : List ℕ} {i : ℕ} {work : List ℕ} (f : Clearing w i work) where
-  pub clear-next : i < 512 → Clearing w (i + 1) (set work (usesAt + i) 0)
-  clear-next h = record {
-    size = f .size;
-    below = omega arith;
-    same = length-set work (usesAt + i) 0 ∙ f .same;
-    aside = aside-set (f .aside) (usesAt + i) 0 (omega arith) (omega arith);
-    words = λ q l. split (ℕ-discrete q i)
-        (λ e. ap (λ (x : ℕ). getD (set work (usesAt + i) 0) (usesAt + x) 0) e ∙ getD-set-same work (usesAt + i) 0 0 (omega (arith, f .size, f .same)))
-        (λ e. getD-set-other work (usesAt + i) (usesAt + q) 0 0 (λ y. e (omega arith)) ∙ f .words q (omega arith));
-  }
-
-  pub clear-done : 512 ≤ i → Tally [] work
-  clear-done h = record { word = λ q l. f .words q (omega arith) }
 
 -- ---- the labels of one position, in the words w at the start
 

@@ -19,20 +19,20 @@ use Rattle.lifting.specs.Points.{CfgPoint, Terminator}
 use Rattle.lifting.specs.Walk.{walkOf}
 use Rattle.lifting.specs.Absorb.{labels, soleTarget, useCount}
 use Rattle.func.specs.Decode.{funcOf}
-use Rattle.runs.specs.Members.{In, here}
-use Rattle.runs.specs.AbsorbCount.{sole-straight}
-use Rattle.control.specs.Tables.{split}
-use Rattle.flat.specs.Flat.{byCount, glues, gluesTo}
-use Rattle.flat.specs.FlatLaws.{glue-last, glue-next}
-use Rattle.points.specs.Numbers.{Small, number-low, pointNumber, pointOf, pointsAt}
-use Rattle.term.specs.At.{blockAt, pointAt}
-use Rattle.term.specs.Visited.{Visited, label-small, point-small, point-word, visited-below, word-is}
-use Rattle.term.specs.declared.Sole.{Sole}
-use Rattle.term.specs.declared.Sole.the-variants.{To, Nowhere}
-use Rattle.term.specs.Way.{asSole}
-use Rattle.blocks.specs.Aside.{Aside, aside-more, aside-none, aside-set}
-use Rattle.blocks.specs.Uses.{Counted, usesAt}
-use Rattle.blocks.specs.Glue.{Beyond, Glued, absorbed, absorbs, aloneWord, glue-is, glueWord, gluesAt, gluesEnd, joinable, stands, status-alone, status-joined, statusWord, statusesAt}
+use Rattle.laws.specs.Members.{In, here}
+use Rattle.lifting_runs.specs.AbsorbCount.{sole-straight}
+use Rattle.work.specs.Layout.{pointsAt, usesAt, statusesAt, absorbsAt, absorbsEnd}
+use Rattle.work.specs.Aside.{Aside, aside-none, aside-set, aside-more, split}
+use Rattle.lifting_blocks.specs.Flat.{byCount, glues, gluesTo}
+use Rattle.lifting_blocks.specs.FlatLaws.{glue-last, glue-next}
+use Rattle.walk_points.specs.Numbers.{Small, number-low, pointNumber, pointOf}
+use Rattle.terminators.specs.At.{blockAt, pointAt}
+use Rattle.terminators.specs.Visited.{Visited, label-small, point-small, point-word, visited-below, word-is}
+use Rattle.terminators.specs.declared.Sole.{Sole}
+use Rattle.terminators.specs.declared.Sole.the-variants.{To, Nowhere}
+use Rattle.terminators.specs.Kinds.{asSole}
+use Rattle.blocks.specs.Uses.{Counted}
+use Rattle.blocks.specs.Absorbs.{Beyond, AbsorbWords, absorbed, absorbs, aloneWord, glue-is, absorbWord, joinable, stands, status-alone, status-joined, statusWord}
 
 -- ---- one position
 
@@ -91,7 +91,7 @@ pub joined-some : (w : List ℕ) (i : ℕ) {b : Bool} → b ≡ absorbed (funcOf
 joined-some w zero e y = absurd (false≢true (sym e ∙ y))
 joined-some w (suc i) e y = omega arith
 
-pub status-before : (w : List ℕ) (i : ℕ) {u : List ℕ} → Glued (funcOf w) i u → {b : Bool} → b ≡ absorbed (funcOf w) i → b ≡ true
+pub status-before : (w : List ℕ) (i : ℕ) {u : List ℕ} → AbsorbWords (funcOf w) i u → {b : Bool} → b ≡ absorbed (funcOf w) i → b ≡ true
     → getD u (statusesAt + (i - 1)) 0 ≡ statusWord (stands (funcOf w) i) (pointAt (funcOf w) i)
 status-before w zero g e y = absurd (false≢true (sym e ∙ y))
 status-before w (suc i) {u} g e y =
@@ -154,9 +154,9 @@ pub record Gluing (func w : List ℕ) (m i : ℕ) (joined : Bool) (work : List �
   pub counted : Counted (funcOf func) work
   pub below : i ≤ m
   pub before : joined ≡ absorbed (funcOf func) i
-  pub glued : Glued (funcOf func) i work
+  pub glued : AbsorbWords (funcOf func) i work
   pub same : length work ≡ length w
-  pub aside : Aside statusesAt gluesEnd w work
+  pub aside : Aside statusesAt absorbsEnd w work
   pub beyond : Beyond i w work
 
 pub gluing-first : {func w : List ℕ} {m : ℕ} → Visited func w m → Counted (funcOf func) w → Gluing func w m 0 false w
@@ -165,10 +165,10 @@ gluing-first {w = w} k t = record {
   counted = t;
   below = omega arith;
   before = refl;
-  glued = record { status = λ i h. absurd (omega arith); glue = λ i h. absurd (omega arith) };
+  glued = record { status = λ i h. absurd (omega arith); absorb = λ i h. absurd (omega arith) };
   same = refl;
-  aside = aside-none statusesAt gluesEnd w;
-  beyond = record { status = λ i h l. refl; glue = λ i h l. refl };
+  aside = aside-none statusesAt absorbsEnd w;
+  beyond = record { status = λ i h l. refl; absorb = λ i h l. refl };
 }
 
 module _ {func w : List ℕ} {m i : ℕ} {joined : Bool} {work : List ℕ} (f : Gluing func w m i joined work) (h : i < m) (s : ℕ) (b : Bool) where
@@ -176,23 +176,23 @@ module _ {func w : List ℕ} {m i : ℕ} {joined : Bool} {work : List ℕ} (f : 
   one = set work (statusesAt + i) s
 
   abbrev two : List ℕ
-  two = set one (gluesAt + i) (glueWord b)
+  two = set one (absorbsAt + i) (absorbWord b)
 
-  inside : gluesEnd ≤ length work
+  inside : absorbsEnd ≤ length work
   inside = omega (arith, f .visited .size)
 
   low : i < 512
   low = omega (arith, f .visited .few)
 
-  between : Aside statusesAt gluesEnd work two
+  between : Aside statusesAt absorbsEnd work two
   between =
-      aside-set (aside-set (aside-none statusesAt gluesEnd work) (statusesAt + i) s (omega arith) (omega (arith, low))) (gluesAt + i) (glueWord b)
+      aside-set (aside-set (aside-none statusesAt absorbsEnd work) (statusesAt + i) s (omega arith) (omega (arith, low))) (absorbsAt + i) (absorbWord b)
       (omega arith) (omega (arith, low))
 
   status-words : s ≡ statusWord (stands (funcOf func) i) (pointAt (funcOf func) i) → (j : ℕ) → j < i + 1
       → getD two (statusesAt + j) 0 ≡ statusWord (stands (funcOf func) j) (pointAt (funcOf func) j)
   status-words e j l =
-      getD-set-other one (gluesAt + i) (statusesAt + j) (glueWord b) 0 (λ y. omega (arith, low))
+      getD-set-other one (absorbsAt + i) (statusesAt + j) (absorbWord b) 0 (λ y. omega (arith, low))
       ∙ split (ℕ-discrete j i)
       (λ z.
       ap (λ (x : ℕ). getD one (statusesAt + x) 0) z
@@ -201,51 +201,51 @@ module _ {func w : List ℕ} {m i : ℕ} {joined : Bool} {work : List ℕ} (f : 
       ∙ ap (λ (x : ℕ). statusWord (stands (funcOf func) x) (pointAt (funcOf func) x)) (sym z))
       (λ z. getD-set-other work (statusesAt + i) (statusesAt + j) s 0 (λ y. z (omega arith)) ∙ f .glued .status j (omega arith))
 
-  glue-words : b ≡ absorbs (funcOf func) i → (j : ℕ) → j < i + 1 → getD two (gluesAt + j) 0 ≡ glueWord (absorbs (funcOf func) j)
+  glue-words : b ≡ absorbs (funcOf func) i → (j : ℕ) → j < i + 1 → getD two (absorbsAt + j) 0 ≡ absorbWord (absorbs (funcOf func) j)
   glue-words e j l =
       split (ℕ-discrete j i)
       (λ z.
-      ap (λ (x : ℕ). getD two (gluesAt + x) 0) z
-      ∙ getD-set-same one (gluesAt + i) (glueWord b) 0 (omega (arith, inside, low, length-set work (statusesAt + i) s))
-      ∙ ap glueWord e
-      ∙ ap (λ (x : ℕ). glueWord (absorbs (funcOf func) x)) (sym z))
+      ap (λ (x : ℕ). getD two (absorbsAt + x) 0) z
+      ∙ getD-set-same one (absorbsAt + i) (absorbWord b) 0 (omega (arith, inside, low, length-set work (statusesAt + i) s))
+      ∙ ap absorbWord e
+      ∙ ap (λ (x : ℕ). absorbWord (absorbs (funcOf func) x)) (sym z))
       (λ z.
-      getD-set-other one (gluesAt + i) (gluesAt + j) (glueWord b) 0 (λ y. z (omega arith))
-      ∙ getD-set-other work (statusesAt + i) (gluesAt + j) s 0 (λ y. omega (arith, low))
-      ∙ f .glued .glue j (omega arith))
+      getD-set-other one (absorbsAt + i) (absorbsAt + j) (absorbWord b) 0 (λ y. z (omega arith))
+      ∙ getD-set-other work (statusesAt + i) (absorbsAt + j) s 0 (λ y. omega (arith, low))
+      ∙ f .glued .absorb j (omega arith))
 
   later : Beyond (i + 1) w two
   later = record {
     status = λ j h l.
-        getD-set-other one (gluesAt + i) (statusesAt + j) (glueWord b) 0 (λ y. omega arith)
+        getD-set-other one (absorbsAt + i) (statusesAt + j) (absorbWord b) 0 (λ y. omega arith)
         ∙ getD-set-other work (statusesAt + i) (statusesAt + j) s 0 (λ y. omega arith)
         ∙ f .beyond .status j (omega arith) l;
-    glue = λ j h l.
-        getD-set-other one (gluesAt + i) (gluesAt + j) (glueWord b) 0 (λ y. omega arith)
-        ∙ getD-set-other work (statusesAt + i) (gluesAt + j) s 0 (λ y. omega (arith, low))
-        ∙ f .beyond .glue j (omega arith) l;
+    absorb = λ j h l.
+        getD-set-other one (absorbsAt + i) (absorbsAt + j) (absorbWord b) 0 (λ y. omega arith)
+        ∙ getD-set-other work (statusesAt + i) (absorbsAt + j) s 0 (λ y. omega (arith, low))
+        ∙ f .beyond .absorb j (omega arith) l;
   }
 
   pub gluing-next : s ≡ statusWord (stands (funcOf func) i) (pointAt (funcOf func) i) → b ≡ absorbs (funcOf func) i → {out : List ℕ} → out ≡ two
       → length out ≡ length work
       → Gluing func w m (i + 1) b out
   gluing-next es eb {out} eo l =
-      let s2 : Aside statusesAt gluesEnd work out = subst (Aside statusesAt gluesEnd work) (sym eo) between in
+      let s2 : Aside statusesAt absorbsEnd work out = subst (Aside statusesAt absorbsEnd work) (sym eo) between in
       record {
         visited = visited-below (f .visited) (λ x z. s2 .before x (omega arith)) l;
         counted = record { word = λ q z. s2 .before (usesAt + q) (omega arith) ∙ f .counted .word q z };
         below = omega arith;
         before = eb ∙ sym (ap (absorbed (funcOf func)) (add-one i));
-        glued = subst (Glued (funcOf func) (i + 1)) (sym eo) (record { status = status-words es; glue = glue-words eb });
+        glued = subst (AbsorbWords (funcOf func) (i + 1)) (sym eo) (record { status = status-words es; absorb = glue-words eb });
         same = l ∙ f .same;
         aside = aside-more (f .aside) s2;
         beyond = subst (Beyond (i + 1) w) (sym eo) later;
       }
 
-pub gluing-done : {func w : List ℕ} {m i : ℕ} {joined : Bool} {work : List ℕ} → Gluing func w m i joined work → m ≤ i → Glued (funcOf func) m work
+pub gluing-done : {func w : List ℕ} {m i : ℕ} {joined : Bool} {work : List ℕ} → Gluing func w m i joined work → m ≤ i → AbsorbWords (funcOf func) m work
 gluing-done {func} {m = m} {i} {work = work} f h =
     let e : i ≡ m = omega (arith, f .below) in
-    subst (λ (n : ℕ). Glued (funcOf func) n work) e (f .glued)
+    subst (λ (n : ℕ). AbsorbWords (funcOf func) n work) e (f .glued)
 
 pub gluing-beyond : {func w : List ℕ} {m i : ℕ} {joined : Bool} {work : List ℕ} → Gluing func w m i joined work → m ≤ i → Beyond m w work
 gluing-beyond {w = w} {m} {i} {work = work} f h =

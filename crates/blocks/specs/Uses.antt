@@ -1,4 +1,4 @@
--- Use counts by a point's number, in 512 words of the work slice from word 2,048 on. Assumes nothing.
+-- Use counts by a point's number, in 512 words of the work slice. Assumes nothing.
 --     tally-none, tally-more    words that count a list of points, one after the other
 --     uses-first, uses-next, uses-all     the uses of the first positions
 --     tally-low     a count is at most the list's length
@@ -9,23 +9,18 @@ use native.Mathlib.Numerals.{add-one}
 use native.Mathlib.Omega.{arith}
 use lib.ListN.{getD, length, set, take}
 use lib.Seq.{getD-set-other, getD-set-same, take-length, take-suc}
-use Rattle.lifting.specs.Lists.{choose, choose-no, choose-yes, gather}
+use Rattle.laws.specs.Lists.{choose, choose-no, choose-yes, gather}
 use Rattle.lifting.specs.Ast.{Func}
 use Rattle.lifting.specs.Points.{BlockLifting, CfgPoint, Table, eqPoint}
 use Rattle.lifting.specs.Walk.{walkOf}
 use Rattle.lifting.specs.Absorb.{countIn, labels, useCount}
-use Rattle.func.specs.Lists.{gather-append}
-use Rattle.control.specs.Tables.{split}
-use Rattle.flat.specs.Flat.{noPair}
-use Rattle.flat.specs.Totals.{firstPoint, use-count, usesOf}
-use Rattle.points.specs.Numbers.{Small, number-back, number-low, point-back, pointNumber, pointOf}
-use Rattle.term.specs.At.{blockAt}
-
-abbrev pub usesAt : ℕ
-usesAt = 2048
-
-abbrev pub usesEnd : ℕ
-usesEnd = 2560
+use Rattle.laws.specs.Gather.{gather-append}
+use Rattle.work.specs.Layout.{usesAt, usesEnd}
+use Rattle.work.specs.Aside.{Cleared, split}
+use Rattle.lifting_blocks.specs.Flat.{noPair}
+use Rattle.lifting_blocks.specs.Totals.{firstPoint, use-count, usesOf}
+use Rattle.walk_points.specs.Numbers.{Small, number-back, number-low, point-back, pointNumber, pointOf}
+use Rattle.terminators.specs.At.{blockAt}
 
 -- the words count how often each point stands in a list
 pub record Tally (l : List CfgPoint) (u : List ℕ) : Type 0 where
@@ -70,6 +65,10 @@ module _ {l : List CfgPoint} {u : List ℕ} (t : Tally l u) (z : usesEnd ≤ len
         let none : choose (eqPoint (pointOf q) p) 1 0 ≡ 0 = choose-no {A = ℕ} (eqPoint (pointOf q) p) 1 0 n in
         getD-set-other u at (usesAt + q) (getD u at 0 + 1) 0 other ∙ omega (arith, t .word q h, count-append (pointOf q) l (p ∷ [])));
   }
+
+-- no point is used
+pub tally-cleared : {w u : List ℕ} → Cleared usesAt usesEnd w u → Tally [] u
+tally-cleared k = record { word = λ q h. k .blank (usesAt + q) (omega arith) (omega arith) }
 
 -- ---- the uses of the first positions
 

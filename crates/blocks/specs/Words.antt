@@ -2,32 +2,30 @@
 --     layWord, lay-words       after the walk, the use counts and the pass over positions, above the tables of the control-flow walk
 --     blockWord, block-words   all of them, where the slice was clear
 --     walkable-stands          what the walk asks of a text follows from what the reader promises
-use mathlib.Core.Path.{_≡_, refl, sym, ap, subst, _∙_}
+use mathlib.Core.Path.{_≡_, refl, sym, ap, _∙_}
 use mathlib.Core.Bool.{Bool, true, false, cond}
 use mathlib.Core.List.{List, [], _∷_}
 use Prim.Native.Nat.{ℕ, zero, suc, _+_, _-_, _≤_, _<_}
-use native.Mathlib.Decide.{ℕ-discrete}
 use native.Mathlib.Omega.{arith}
 use lib.Dec.{ltb}
-use lib.ListN.{getD, length, replicate, set}
-use lib.Seq.{getD-set-other, getD-set-same}
+use lib.ListN.{getD, length, replicate}
 use borrow.Author.Tests.{ltb-true, ltb-false}
 use Rattle.lifting.specs.Ast.{Region, Func}
 use Rattle.lifting.specs.Parts.{hasBody}
 use Rattle.lifting.specs.Walk.{walkOf}
 use Rattle.lifting.specs.Absorb.{useCount}
 use Rattle.func.specs.Decode.{funcOf}
-use Rattle.control.specs.Tables.{linesAt, childrenAt, tablesEnd, firstLine, split}
-use Rattle.points.specs.Numbers.{pointOf, pointsAt}
-use Rattle.points.specs.Parents.{parentsAt, parentsEnd}
-use Rattle.points.specs.Walk.{Walkable, walkable-checked}
-use Rattle.points.specs.Words.{walkWord, WalkWords, word-after}
-use Rattle.checks.specs.Same.{Stands}
-use Rattle.term.specs.At.{pointAt}
-use Rattle.term.specs.Visited.{Visited, visited-kept}
-use Rattle.blocks.specs.Aside.{Aside, aside-none}
-use Rattle.blocks.specs.Uses.{usesAt, usesEnd, Counted}
-use Rattle.blocks.specs.Glue.{statusesAt, gluesAt, gluesEnd, statusWord, glueWord, stands, absorbs, Glued, Beyond}
+use Rattle.work.specs.Layout.{linesAt, childrenAt, tablesEnd, pointsAt, usesAt, usesEnd, statusesAt, absorbsAt, absorbsEnd}
+use Rattle.work.specs.Aside.{Aside, Cleared}
+use Rattle.walk_roots.specs.Tables.{firstLine}
+use Rattle.walk_points.specs.Numbers.{pointOf}
+use Rattle.walk_points.specs.Walk.{Walkable, walkable-checked}
+use Rattle.walk_points.specs.Words.{walkWord, WalkWords, word-after}
+use Rattle.check_text.specs.Same.{Stands}
+use Rattle.terminators.specs.At.{pointAt}
+use Rattle.terminators.specs.Visited.{Visited, visited-kept}
+use Rattle.blocks.specs.Uses.{Counted}
+use Rattle.blocks.specs.Absorbs.{statusWord, absorbWord, stands, absorbs, AbsorbWords, Beyond}
 
 -- a position's word, or what was there behind the last position
 abbrev pub positioned : Func → ℕ → ℕ → ℕ → ℕ
@@ -38,15 +36,15 @@ unfoldable pub layWord : Func → (ℕ → ℕ) → ℕ → ℕ
 layWord F old x =
     cond (ltb x usesAt) (walkWord F old x)
     (cond (ltb x usesEnd) (useCount (walkOf F) (pointOf (x - usesAt)))
-    (cond (ltb x gluesAt) (positioned F (x - statusesAt) (statusWord (stands F (x - statusesAt)) (pointAt F (x - statusesAt))) (old x))
-    (cond (ltb x gluesEnd) (positioned F (x - gluesAt) (glueWord (absorbs F (x - gluesAt))) (old x)) (old x))))
+    (cond (ltb x absorbsAt) (positioned F (x - statusesAt) (statusWord (stands F (x - statusesAt)) (pointAt F (x - statusesAt))) (old x))
+    (cond (ltb x absorbsEnd) (positioned F (x - absorbsAt) (absorbWord (absorbs F (x - absorbsAt))) (old x)) (old x))))
 
 -- from the words w to the words u
 pub record LayWords (F : Func) (w u : List ℕ) : Type 0 where
   pub word : (x : ℕ) → tablesEnd ≤ x → getD u x 0 ≡ layWord F (λ y. getD w y 0) x
 
-module _ {F : Func} {w u v z : List ℕ} {m : ℕ} (walked : WalkWords F w u) (counts : Aside usesAt usesEnd u v) (run : Aside statusesAt gluesEnd v z) (past : Beyond m v z)
-    (counted : Counted F z) (glued : Glued F m z) (size : m ≡ length (walkOf F)) (few : m ≤ 512) where
+module _ {F : Func} {w u v z : List ℕ} {m : ℕ} (walked : WalkWords F w u) (counts : Aside usesAt usesEnd u v) (run : Aside statusesAt absorbsEnd v z) (past : Beyond m v z)
+    (counted : Counted F z) (glued : AbsorbWords F m z) (size : m ≡ length (walkOf F)) (few : m ≤ 512) where
   abbrev old : ℕ → ℕ
   old y = getD w y 0
 
@@ -61,72 +59,50 @@ module _ {F : Func} {w u v z : List ℕ} {m : ℕ} (walked : WalkWords F w u) (c
       go true e = there (omega (arith, ltb-true i (length (walkOf F)) e))
       go false e = past-it (omega (arith, ltb-false i (length (walkOf F)) e))
 
-  status-word : (x : ℕ) → statusesAt ≤ x → x < gluesAt
+  status-word : (x : ℕ) → statusesAt ≤ x → x < absorbsAt
       → getD z x 0 ≡ positioned F (x - statusesAt) (statusWord (stands F (x - statusesAt)) (pointAt F (x - statusesAt))) (old x)
   status-word x a b =
       let e : statusesAt + (x - statusesAt) ≡ x = omega arith in
       by-position (x - statusesAt) x (old x) _ (λ h. sym (ap (λ (y : ℕ). getD z y 0) e) ∙ glued .status (x - statusesAt) h)
       (λ h. sym (ap (λ (y : ℕ). getD z y 0) e) ∙ past .status (x - statusesAt) h (omega arith) ∙ ap (λ (y : ℕ). getD v y 0) e ∙ kept x (omega arith))
 
-  glue-word : (x : ℕ) → gluesAt ≤ x → x < gluesEnd → getD z x 0 ≡ positioned F (x - gluesAt) (glueWord (absorbs F (x - gluesAt))) (old x)
+  glue-word : (x : ℕ) → absorbsAt ≤ x → x < absorbsEnd → getD z x 0 ≡ positioned F (x - absorbsAt) (absorbWord (absorbs F (x - absorbsAt))) (old x)
   glue-word x a b =
-      let e : gluesAt + (x - gluesAt) ≡ x = omega arith in
-      by-position (x - gluesAt) x (old x) _ (λ h. sym (ap (λ (y : ℕ). getD z y 0) e) ∙ glued .glue (x - gluesAt) h)
-      (λ h. sym (ap (λ (y : ℕ). getD z y 0) e) ∙ past .glue (x - gluesAt) h (omega arith) ∙ ap (λ (y : ℕ). getD v y 0) e ∙ kept x (omega arith))
+      let e : absorbsAt + (x - absorbsAt) ≡ x = omega arith in
+      by-position (x - absorbsAt) x (old x) _ (λ h. sym (ap (λ (y : ℕ). getD z y 0) e) ∙ glued .absorb (x - absorbsAt) h)
+      (λ h. sym (ap (λ (y : ℕ). getD z y 0) e) ∙ past .absorb (x - absorbsAt) h (omega arith) ∙ ap (λ (y : ℕ). getD v y 0) e ∙ kept x (omega arith))
 
   pub lay-words : LayWords F w z
   unfolding layWord
   lay-words = record { word = λ x h. low x h (ltb x usesAt) refl }
     where
-      end : (x : ℕ) → gluesAt ≤ x → (b : Bool) → ltb x gluesEnd ≡ b → getD z x 0 ≡ cond b (positioned F (x - gluesAt) (glueWord (absorbs F (x - gluesAt))) (old x)) (old x)
-      end x h true e = glue-word x h (ltb-true x gluesEnd e)
-      end x h false e = let k = ltb-false x gluesEnd e in run .after x k ∙ kept x (omega arith)
+      end : (x : ℕ) → absorbsAt ≤ x → (b : Bool) → ltb x absorbsEnd ≡ b → getD z x 0 ≡ cond b (positioned F (x - absorbsAt) (absorbWord (absorbs F (x - absorbsAt))) (old x)) (old x)
+      end x h true e = glue-word x h (ltb-true x absorbsEnd e)
+      end x h false e = let k = ltb-false x absorbsEnd e in run .after x k ∙ kept x (omega arith)
 
-      high : (x : ℕ) → statusesAt ≤ x → (b : Bool) → ltb x gluesAt ≡ b
+      high : (x : ℕ) → statusesAt ≤ x → (b : Bool) → ltb x absorbsAt ≡ b
           → getD z x 0 ≡ cond b (positioned F (x - statusesAt) (statusWord (stands F (x - statusesAt)) (pointAt F (x - statusesAt))) (old x))
-          (cond (ltb x gluesEnd) (positioned F (x - gluesAt) (glueWord (absorbs F (x - gluesAt))) (old x)) (old x))
-      high x h true e = status-word x h (ltb-true x gluesAt e)
-      high x h false e = end x (ltb-false x gluesAt e) (ltb x gluesEnd) refl
+          (cond (ltb x absorbsEnd) (positioned F (x - absorbsAt) (absorbWord (absorbs F (x - absorbsAt))) (old x)) (old x))
+      high x h true e = status-word x h (ltb-true x absorbsAt e)
+      high x h false e = end x (ltb-false x absorbsAt e) (ltb x absorbsEnd) refl
 
       mid : (x : ℕ) → usesAt ≤ x → (b : Bool) → ltb x usesEnd ≡ b
           → getD z x 0 ≡ cond b (useCount (walkOf F) (pointOf (x - usesAt)))
-          (cond (ltb x gluesAt) (positioned F (x - statusesAt) (statusWord (stands F (x - statusesAt)) (pointAt F (x - statusesAt))) (old x))
-          (cond (ltb x gluesEnd) (positioned F (x - gluesAt) (glueWord (absorbs F (x - gluesAt))) (old x)) (old x)))
+          (cond (ltb x absorbsAt) (positioned F (x - statusesAt) (statusWord (stands F (x - statusesAt)) (pointAt F (x - statusesAt))) (old x))
+          (cond (ltb x absorbsEnd) (positioned F (x - absorbsAt) (absorbWord (absorbs F (x - absorbsAt))) (old x)) (old x)))
       mid x h true e =
           let l = ltb-true x usesEnd e in
           let y : usesAt + (x - usesAt) ≡ x = omega arith in
           sym (ap (λ (y : ℕ). getD z y 0) y) ∙ counted .word (x - usesAt) (omega arith)
-      mid x h false e = high x (ltb-false x usesEnd e) (ltb x gluesAt) refl
+      mid x h false e = high x (ltb-false x usesEnd e) (ltb x absorbsAt) refl
 
       low : (x : ℕ) → tablesEnd ≤ x → (b : Bool) → ltb x usesAt ≡ b
           → getD z x 0 ≡ cond b (walkWord F old x)
           (cond (ltb x usesEnd) (useCount (walkOf F) (pointOf (x - usesAt)))
-          (cond (ltb x gluesAt) (positioned F (x - statusesAt) (statusWord (stands F (x - statusesAt)) (pointAt F (x - statusesAt))) (old x))
-          (cond (ltb x gluesEnd) (positioned F (x - gluesAt) (glueWord (absorbs F (x - gluesAt))) (old x)) (old x))))
+          (cond (ltb x absorbsAt) (positioned F (x - statusesAt) (statusWord (stands F (x - statusesAt)) (pointAt F (x - statusesAt))) (old x))
+          (cond (ltb x absorbsEnd) (positioned F (x - absorbsAt) (absorbWord (absorbs F (x - absorbsAt))) (old x)) (old x))))
       low x h true e = let l = ltb-true x usesAt e in run .before x (omega arith) ∙ counts .before x l ∙ walked .word x h
       low x h false e = mid x (ltb-false x usesAt e) (ltb x usesEnd) refl
-
--- the words from a up to b are 0, and the others stay
-pub record Cleared (a b : ℕ) (w u : List ℕ) : Type 0 where
-  pub blank : (x : ℕ) → a ≤ x → x < b → getD u x 0 ≡ 0
-  pub aside : Aside a b w u
-
-pub cleared-none : (a : ℕ) (w : List ℕ) → Cleared a a w w
-cleared-none a w = record { blank = λ x h l. absurd (omega arith); aside = aside-none a a w }
-
-pub cleared-more : {a i : ℕ} {w u : List ℕ} → Cleared a i w u → a ≤ i → i < length u → Cleared a (i + 1) w (set u i 0)
-cleared-more {a} {i} {w} {u} k h l = record {
-  blank = λ x g z.
-      split (ℕ-discrete x i) (λ e. ap (λ (y : ℕ). getD (set u i 0) y 0) e ∙ getD-set-same u i 0 0 l)
-      (λ e. getD-set-other u i x 0 0 e ∙ k .blank x g (omega arith));
-  aside = record {
-    before = λ x g. getD-set-other u i x 0 0 (λ e. omega arith) ∙ k .aside .before x g;
-    after = λ x g. getD-set-other u i x 0 0 (λ e. omega arith) ∙ k .aside .after x (omega arith);
-  };
-}
-
-pub cleared-to : {a i b : ℕ} {w u : List ℕ} → Cleared a i w u → i ≡ b → Cleared a b w u
-cleared-to {a} {w = w} {u} k e = subst (λ (n : ℕ). Cleared a n w u) e k
 
 -- word x of a slice that was clear: the table of ctrl lines, the visited points, the parents, the use counts, the positions
 unfoldable pub blockWord : Func → ℕ → ℕ

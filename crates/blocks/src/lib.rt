@@ -1,54 +1,42 @@
 // Use counts of the visited points, and the kept blocks as runs of neighbouring visited points.
-pub mod glue;
+pub mod absorb;
 pub mod uses;
 
-use crate::glue::glue;
+use crate::absorb::absorb;
 use crate::uses::count_uses;
-use control::tables::CHILDREN;
-use control::tables::LINES;
-use points::POINTS;
-use points::walk;
+use walk_points::walk;
+use work::CHILDREN;
+use work::LINES;
+use work::POINTS;
+use work::clear;
 ghost use mathlib.Core.Path.{_≡_};
 ghost use Prim.Native.Nat.{_≤_, _<_};
 ghost use lib.ListN.{length, replicate};
-ghost use Rattle.lifting.specs.Limits.{scratchWords};
 ghost use Rattle.func.specs.Decode.{funcOf};
 ghost use Rattle.func.specs.Tables.{Tables};
-ghost use Rattle.points.specs.Walk.{Walkable};
-ghost use Rattle.checks.specs.Same.{Stands};
-ghost use Rattle.term.specs.Visited.{Visited};
+ghost use Rattle.work.specs.Layout.{workNeed};
+ghost use Rattle.walk_points.specs.Walk.{Walkable};
+ghost use Rattle.check_text.specs.Same.{Stands};
+ghost use Rattle.terminators.specs.Visited.{Visited};
 ghost use Rattle.blocks.specs.Uses.{Counted};
-ghost use Rattle.blocks.specs.Glue.{Glued};
-ghost use Rattle.blocks.specs.Words.{LayWords, Cleared, BlockWords};
+ghost use Rattle.blocks.specs.Absorbs.{AbsorbWords};
+ghost use Rattle.blocks.specs.Words.{LayWords, BlockWords};
 
 // The walk, the use counts and the words of the kept blocks stand: how many points are visited.
 fn lay_out(func: &[u32], work: &mut [u32]) -> usize
     requires { ⌜ Tables (now func) ⌝ }
     requires { ⌜ Walkable (funcOf (now func)) ⌝ }
-    requires { ⌜ scratchWords ≤ length (now work) ⌝ }
+    requires { ⌜ workNeed ≤ length (now work) ⌝ }
     ensures { λ m. ⌜ Visited (now (func .entry)) (now (work .exit)) m ⌝ }
     ensures { λ _. ⌜ Counted (funcOf (now (func .entry))) (now (work .exit)) ⌝ }
-    ensures { λ m. ⌜ Glued (funcOf (now (func .entry))) m (now (work .exit)) ⌝ }
+    ensures { λ m. ⌜ AbsorbWords (funcOf (now (func .entry))) m (now (work .exit)) ⌝ }
     ensures { λ _. ⌜ LayWords (funcOf (now (func .entry))) (now (work .entry)) (now (work .exit)) ⌝ }
     ensures { λ _. ⌜ length (now (work .exit)) ≡ length (now (work .entry)) ⌝ }
 {
     let m = walk(func, work);
     count_uses(func, work, m);
-    glue(func, work, m);
+    absorb(func, work, m);
     m
-}
-
-// The words from `from` up to `to` are 0.
-fn clear(work: &mut [u32], from: usize, to: usize)
-    requires { ⌜ (from ≤ to) × (to ≤ length (now work)) ⌝ }
-    ensures { λ _. ⌜ Cleared from to (now (work .entry)) (now (work .exit)) ⌝ }
-    ensures { λ _. ⌜ length (now (work .exit)) ≡ length (now (work .entry)) ⌝ }
-{
-    let mut i = from;
-    while i < to {
-        work[i] = 0;
-        i += 1;
-    }
 }
 
 // The kept blocks of a function with a body stand in the work slice, which was clear: how many points are visited. What only the walks needed is
@@ -56,7 +44,7 @@ fn clear(work: &mut [u32], from: usize, to: usize)
 pub fn blocks(func: &[u32], work: &mut [u32]) -> usize
     requires { ⌜ Stands (funcOf (now func)) (now func) ⌝ }
     requires { ⌜ 0 < length (funcOf (now func) .regions) ⌝ }
-    requires { ⌜ (scratchWords ≤ length (now work)) × (now work ≡ replicate (length (now work)) 0) ⌝ }
+    requires { ⌜ (workNeed ≤ length (now work)) × (now work ≡ replicate (length (now work)) 0) ⌝ }
     ensures { λ m. ⌜ Visited (now (func .entry)) (now (work .exit)) m ⌝ }
     ensures { λ _. ⌜ BlockWords (funcOf (now (func .entry))) (now (work .exit)) ⌝ }
     ensures { λ _. ⌜ length (now (work .exit)) ≡ length (now (work .entry)) ⌝ }

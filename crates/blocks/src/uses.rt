@@ -1,34 +1,19 @@
 // Use counts: a table of the work slice with a word for each of 512 points, by number. The first point counts one, and so does each label.
-use term::label;
-use term::label_count;
+use term_labels::label;
+use term_labels::label_count;
+use work::USES;
+use work::USES_END;
+use work::clear;
 ghost use mathlib.Core.Path.{_≡_};
-ghost use mathlib.Core.List.{[]};
 ghost use Prim.Native.Nat.{_+_, _≤_, _<_};
 ghost use lib.ListN.{length, getD, set};
 ghost use Rattle.lifting.specs.Walk.{walkOf};
 ghost use Rattle.func.specs.Decode.{funcOf};
-ghost use Rattle.flat.specs.Totals.{usesOf};
-ghost use Rattle.term.specs.Visited.{Visited};
-ghost use Rattle.blocks.specs.Aside.{Aside};
-ghost use Rattle.blocks.specs.Uses.{Counted, Tallied, Tally, usesAt, usesEnd};
-
-pub const USES: usize = 2048;
-
-const USES_COUNT: usize = 512;
-
-// No point is used.
-fn clear(work: &mut [u32])
-    requires { ⌜ usesEnd ≤ length (now work) ⌝ }
-    ensures { λ _. ⌜ Tally [] (now (work .exit)) ⌝ }
-    ensures { λ _. ⌜ Aside usesAt usesEnd (now (work .entry)) (now (work .exit)) ⌝ }
-    ensures { λ _. ⌜ length (now (work .exit)) ≡ length (now (work .entry)) ⌝ }
-{
-    let mut i = 0;
-    while i < USES_COUNT {
-        work[USES + i] = 0;
-        i += 1;
-    }
-}
+ghost use Rattle.work.specs.Layout.{usesAt, usesEnd};
+ghost use Rattle.work.specs.Aside.{Aside};
+ghost use Rattle.lifting_blocks.specs.Totals.{usesOf};
+ghost use Rattle.terminators.specs.Visited.{Visited};
+ghost use Rattle.blocks.specs.Uses.{Counted, Tallied, Tally};
 
 // One more use of point q.
 fn bump(work: &mut [u32], q: usize)
@@ -81,7 +66,7 @@ pub fn count_uses(func: &[u32], work: &mut [u32], m: usize)
     ensures { λ _. ⌜ Aside usesAt usesEnd (now (work .entry)) (now (work .exit)) ⌝ }
     ensures { λ _. ⌜ length (now (work .exit)) ≡ length (now (work .entry)) ⌝ }
 {
-    clear(work);
+    clear(work, USES, USES_END);
     bump(work, 0);
     count_all(func, work, m);
 }

@@ -5,12 +5,13 @@
 use mathlib.Core.Path.{_≡_, refl, sym, ap, ap₂, _∙_}
 use mathlib.Core.Bool.{Bool, true, false, not, _&&_}
 use mathlib.Core.List.{List, _++_}
-use Prim.Native.Nat.{ℕ, suc, _≤_, _<_}
+use Prim.Native.Nat.{ℕ, suc}
 use native.Mathlib.Omega.{arith}
 use lib.Dec.{leb, ltb}
 use lib.ListN.{drop, length}
-use borrow.Author.Tests.{le-leb, lt-leb}
-use Rattle.lifting.specs.Lists.{every}
+use Rattle.refusals.specs.declared.Refusal.the-variants.{Ids, Values, Output}
+use Rattle.refusals.specs.Numbers.{refusalNumber}
+use Rattle.laws.specs.Lists.{every}
 use Rattle.lifting.specs.Ast.{Func}
 use Rattle.lifting.specs.Parts.{ids}
 use Rattle.lifting.specs.Limits.{highestId}
@@ -20,25 +21,24 @@ use Rattle.lifting.specs.Ids.{nextId}
 use Rattle.lifting.specs.Instructions.{Instruction, listOf}
 use Rattle.lifting.specs.Words.{words}
 use Rattle.lifting.specs.Answer.{idsFit, lifted, parsed, refused, valuesSet}
-use Rattle.checks.specs.Same.{Passes}
-use Rattle.first.specs.Fit.{ids-fit}
-use Rattle.put.specs.declared.Cursor.{Cursor}
-use Rattle.put.specs.Put.{Put}
-use Rattle.put.specs.Items.{listItems}
-use Rattle.emitter.specs.declared.Cause.the-variants.{Ids, Values, Output}
+use Rattle.check_text.specs.Same.{Passes}
+use Rattle.check_first.specs.Fit.{ids-fit}
+use Rattle.emit_words.specs.declared.Cursor.{Cursor}
+use Rattle.emit_words.specs.Put.{Put, mark}
+use Rattle.emit_words.specs.Items.{listItems}
 use Rattle.emitter.specs.declared.Lifted.the-variants.{Whole, Refused}
-use Rattle.emitter.specs.Lift.{Gives, Outcome, by-ids, by-list, by-room, by-values, emitted, gives, gives-same}
-use Rattle.emitter.specs.Listed.{all-given, missed}
+use Rattle.emitter.specs.Emit.{Gives, by-ids, by-list, by-room, by-values, emitted, gives, gives-same}
+use Rattle.emitter.specs.Listed.{all-given, missed-is}
 
 module _ (F : Func) (first n : ℕ) (out : List ℕ) where
-  pub gives-ids : idsFit F first ≡ false → Gives (lifted (parsed F) first n) (Refused Ids) out out
-  gives-ids e = gives-same {a = refused 9} (record { told = refl; words = refl }) (sym (by-ids F first n e))
+  pub gives-ids : idsFit F first ≡ false → Gives (lifted (parsed F) first n) (Refused Ids 0) out out
+  gives-ids e = gives-same {a = refused (refusalNumber Ids)} (record { told = refl; words = refl }) (sym (by-ids F first n e))
 
-  pub gives-values : valuesSet F ≡ false → Gives (emitted F first n) (Refused Values) out out
-  gives-values e = gives-same {a = refused 10} (record { told = refl; words = refl }) (sym (by-values F first n e))
+  pub gives-values : valuesSet F ≡ false → Gives (emitted F first n) (Refused Values 0) out out
+  gives-values e = gives-same {a = refused (refusalNumber Values)} (record { told = refl; words = refl }) (sym (by-values F first n e))
 
-  pub gives-room : valuesSet F ≡ true → leb (length (words (listOf F first))) n ≡ false → (k : ℕ) → Gives (emitted F first n) (Refused (Output k)) out out
-  gives-room e z k = gives-same {a = refused 11} (record { told = refl; words = refl }) (sym (by-room F first n e z))
+  pub gives-room : valuesSet F ≡ true → leb (length (words (listOf F first))) n ≡ false → (k : ℕ) → Gives (emitted F first n) (Refused Output k) out out
+  gives-room e z k = gives-same {a = refused (refusalNumber Output)} (record { told = refl; words = refl }) (sym (by-room F first n e z))
 
   pub gives-list : valuesSet F ≡ true → leb (length (words (listOf F first))) n ≡ true → {k next : ℕ} {exit : List ℕ} → k ≡ length (words (listOf F first))
       → next ≡ nextId F first (walkOf F) (kept (walkOf F)) → exit ≡ words (listOf F first) ++ drop (length (words (listOf F first))) out
@@ -67,32 +67,32 @@ module _ (F : Func) (first : ℕ) where
   pub ids-low : above ≡ false → idsFit F first ≡ false
   ids-low e = ids-fit F first ∙ and-false above _ e
 
-  pub ids-high : highestId < first → idsFit F first ≡ false
-  ids-high h = ids-fit F first ∙ and-later above _ (and-false (leb first highestId) _ (lt-leb first highestId h))
+  pub ids-high : leb first highestId ≡ false → idsFit F first ≡ false
+  ids-high e = ids-fit F first ∙ and-later above _ (and-false (leb first highestId) _ e)
 
-  pub ids-over : suc highestId < next → idsFit F first ≡ false
-  ids-over h = ids-fit F first ∙ and-later above _ (and-later (leb first highestId) _ (lt-leb next (suc highestId) h))
+  pub ids-over : leb next (suc highestId) ≡ false → idsFit F first ≡ false
+  ids-over e = ids-fit F first ∙ and-later above _ (and-later (leb first highestId) _ e)
 
-  pub ids-held : above ≡ true → first ≤ highestId → next ≤ suc highestId → idsFit F first ≡ true
-  ids-held e h l = ids-fit F first ∙ and-both above _ e (and-both (leb first highestId) _ (le-leb first highestId h) (le-leb next (suc highestId) l))
+  pub ids-held : above ≡ true → leb first highestId ≡ true → leb next (suc highestId) ≡ true → idsFit F first ≡ true
+  ids-held e h l = ids-fit F first ∙ and-both above _ e (and-both (leb first highestId) _ h l)
 
 -- ---- 10
 
-false-not : (b : Bool) → true ≡ not b → b ≡ false
-false-not true e = absurd (let z : _≡_ {A = ℕ} 0 1 = cc in omega arith)
-false-not false e = refl
+false-not : (b : Bool) (s : ℕ) → ¬ (s ≡ 0) → s ≡ mark 0 (not b) → b ≡ false
+false-not true s n e = absurd (n e)
+false-not false s n e = refl
 
-true-not : (b : Bool) → false ≡ not b → b ≡ true
-true-not true e = refl
-true-not false e = absurd (let z : _≡_ {A = ℕ} 0 1 = cc in omega arith)
+true-not : (b : Bool) (s : ℕ) → s ≡ 0 → s ≡ mark 0 (not b) → b ≡ true
+true-not true s z e = refl
+true-not false s z e = absurd (omega arith)
 
 module _ (F : Func) (first : ℕ) (ok : Passes F) (held : idsFit F first ≡ true) {w u : List ℕ} {r : Cursor}
-    (p : Put w (record { at = 0; bad = false }) (listItems (listOf F first)) u r) where
+    (p : Put w (record { at = 0; missed = 0 }) (listItems (listOf F first)) u r) where
   abbrev all : Bool
   all = every (λ (i : Instruction). every (λ n. ltb 0 n) (i .ids)) (listOf F first)
 
-  pub missing-any : r .bad ≡ true → valuesSet F ≡ false
-  missing-any e = all-given F first ok held ∙ false-not all (sym e ∙ missed (listOf F first) p)
+  pub missing-any : ¬ (r .missed ≡ 0) → valuesSet F ≡ false
+  missing-any e = all-given F first ok held ∙ false-not all (r .missed) e (missed-is (listOf F first) p)
 
-  pub missing-none : r .bad ≡ false → valuesSet F ≡ true
-  missing-none e = all-given F first ok held ∙ true-not all (sym e ∙ missed (listOf F first) p)
+  pub missing-none : r .missed ≡ 0 → valuesSet F ≡ true
+  missing-none e = all-given F first ok held ∙ true-not all (r .missed) e (missed-is (listOf F first) p)

@@ -1,7 +1,3 @@
--- The list, the entry's answer, how long an output slice is wanted, and demand 3 about the output slice.
-pub mod Lift
-pub mod Wanted
+-- The list, and the answer of a function in its tables.
+pub mod Emit
 pub mod Listed
-pub mod Points
-pub mod Over
-pub mod Demand3

@@ -2,16 +2,16 @@
 --     all-given      10 exactly if some id of the list is 0, for texts with a body and imported functions
 --     room-is        11 by the counted place
 --     list-stands    the written words, and what is beyond them
-use mathlib.Core.Path.{_≡_, refl, sym, ap, ap₂, subst, _∙_}
+use mathlib.Core.Path.{_≡_, refl, sym, ap, subst, _∙_}
 use mathlib.Core.Bool.{Bool, true, false, not, _&&_}
 use mathlib.Core.List.{List, [], _∷_, _++_}
-use Prim.Native.Nat.{ℕ, zero, suc, _+_, _*_, _^_, _≤_, _<_}
+use Prim.Native.Nat.{ℕ, suc, _+_, _≤_, _<_}
 use native.Mathlib.Omega.{arith}
 use lib.Dec.{leb, ltb}
-use lib.ListN.{drop, length, take}
+use lib.ListN.{drop, length}
 use lib.Seq.{sets, sets-eq}
 use borrow.Author.Tests.{lt-ltb, le-leb, lt-leb, leb-true, leb-false}
-use Rattle.lifting.specs.Lists.{every}
+use Rattle.laws.specs.Lists.{every}
 use Rattle.lifting.specs.Ast.{Decl, Func, Region}
 use Rattle.lifting.specs.Parts.{hasBody, requiredIds}
 use Rattle.lifting.specs.Points.{Table}
@@ -20,16 +20,16 @@ use Rattle.lifting.specs.Absorb.{absorb, kept}
 use Rattle.lifting.specs.Instructions.{Instruction, blockInsts, endInst, functionInst, instructions, listOf, paramInst, paramInsts}
 use Rattle.lifting.specs.Words.{words}
 use Rattle.lifting.specs.Answer.{idsFit, isSet, usedValues, valuesSet}
-use Rattle.runs.specs.Members.{all-in, here, there}
-use Rattle.runs.specs.Refers.{Refers, refers}
-use Rattle.runs.specs.Fits as fits
-use Rattle.runs.specs.Shaped.{shaped-checked}
-use Rattle.runs.specs.EveryText.{walk-none}
-use Rattle.flat.specs.Laws as flat
-use Rattle.checks.specs.Same.{Passes}
-use Rattle.put.specs.declared.Cursor.{Cursor}
-use Rattle.put.specs.Put.{Put, anyMissing, lastPlace, sat, wordsOf}
-use Rattle.put.specs.Items.{list-length, list-missing, list-words, listItems}
+use Rattle.laws.specs.Members.{all-in, here, there}
+use Rattle.lifting_runs.specs.Refers.{Refers, refers}
+use Rattle.lifting_runs.specs.Fits as fits
+use Rattle.lifting_runs.specs.Shaped.{shaped-checked}
+use Rattle.lifting_runs.specs.EveryText.{walk-none}
+use Rattle.lifting_blocks.specs.Laws as flat
+use Rattle.check_text.specs.Same.{Passes}
+use Rattle.emit_words.specs.declared.Cursor.{Cursor}
+use Rattle.emit_words.specs.Put.{Put, lastPlace, mark, sat}
+use Rattle.emit_words.specs.Items.{list-length, list-missing, list-words, listItems}
 
 -- all ids of an instruction are given
 abbrev given : Instruction → Bool
@@ -71,13 +71,13 @@ all-given F first ok ids = go (F .regions) refl
 
 -- ---- 11
 
-module _ (l : List Instruction) {w u : List ℕ} {r : Cursor} (p : Put w (record { at = 0; bad = false }) (listItems l) u r) where
+module _ (l : List Instruction) {w u : List ℕ} {r : Cursor} (p : Put w (record { at = 0; missed = 0 }) (listItems l) u r) where
   -- the place after the list
   pub counted : r .at ≡ sat (length (words l))
   counted = omega (arith, p .next, list-length l)
 
-  pub missed : r .bad ≡ not (every given l)
-  missed = p .bad ∙ list-missing l
+  pub missed-is : r .missed ≡ mark 0 (not (every given l))
+  missed-is = p .missed ∙ ap (mark 0) (list-missing l)
 
   -- a slice has fewer words than the last place
   pub room-is : (n : ℕ) → n < lastPlace → leb (r .at) n ≡ leb (length (words l)) n

@@ -11,14 +11,13 @@ use native.Mathlib.Omega.{arith}
 use lib.Dec.{eqb}
 use lib.ListN.{length, getD, length-append}
 use borrow.Author.Tests.{eqb-true, eqb-false}
-use Rattle.lifting.specs.Limits.{scratchWords}
-use Rattle.lifting.specs.Lists.{gather}
-use Rattle.func.specs.Layout.{poolTotal, width, room}
+use Rattle.laws.specs.Lists.{gather}
+use Rattle.func.specs.Layout.{funcNeed, poolTotal, width, room}
 use Rattle.func.specs.Store.{count, most, view, push, folds, length-push, head-push, count-push, count-other, most-push, most-other, view-push, view-other}
 
 -- words that can be stored to: long enough, and no count over its room by more than one
 pub record Ready (w : List ℕ) : Type 0 where
-  pub size : scratchWords ≤ length w
+  pub size : funcNeed ≤ length w
   pub counts : (k : ℕ) → k < poolTotal → count k w ≤ room k + 1
 
 -- the largest first word of entries

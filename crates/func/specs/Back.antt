@@ -11,13 +11,15 @@ use lib.ListN.{length, getD, List·getD-append}
 use borrow.Author.Tests.{leb-true}
 use lib.Seq.{sets}
 use native.Mathlib.Nat.{zero-add}
-use Rattle.words.specs.Part.{part-same, part-at}
-use Rattle.lifting.specs.Lists.{every, gather}
+use Rattle.laws.specs.Every.{every-parts, every-split, every-true}
+use Rattle.laws.specs.Tests.{both}
+use Rattle.laws.specs.Part.{part-same, part-at}
+use Rattle.laws.specs.Lists.{every, gather}
 use Rattle.lifting.specs.Limits.{maxRegions, maxNodes, maxOps, maxConsts, maxParams, maxValues, maxDecls, maxImmediates, maxTargets, withinLimits}
 use Rattle.lifting.specs.Ast.{Value, const, regionInput, nodeOutput, dataInstOutput, Imm, DataInstKind, inst, call, ext, Op, boolCond, spvInst, Decl, Node, block, select, loop, exit, Region, ControlInstKind, unreachable, return, branch, selectBranch, exitInvocation, ControlInst, Func}
 use Rattle.lifting.specs.Parts.{childrenOf, outsOf, nodeControl, nodeValues, nodeInsts, opInsts, ctrlInsts, blockOps, ctrlValues}
 use Rattle.lifting.specs.Parts as text
-use Rattle.func.specs.Lists.{both, every-append, every-gather, every-true, back}
+use Rattle.laws.specs.Gather.{back}
 use Rattle.func.specs.Layout.{poolTotal, consts, params, decls, values, imms, targets, nodeRefs, opRefs, childRefs, entries, regions, nodes, ops, ctrls, entryRoom, entry-room}
 use Rattle.func.specs.Store.{count, view, folds}
 use Rattle.func.specs.Adds.{Ready, ready-after, adds-none, adds-push}
@@ -155,12 +157,12 @@ ctrl-back : {t : List ℕ} → Fit t → (e : List ℕ) (c : ℕ × ControlInst)
 unfolding ctrlAt ctrlCells
 ctrl-back {t} fit e c r k =
     let h = r .cells in
-    let q = every-append kept (c .1 .ins) (gather (λ e. e .1) (c .1 .vals)) k in
+    let q = every-split kept (c .1 .ins) (gather (λ e. e .1) (c .1 .vals)) k in
     let is : immsAt t (getD e 4 0) ≡ immsOf (ctrlInsts (c .1 .kind)) = ap (map immOf) (h .cell 4 (lit< tt) (fit imms (lit< tt)) .is) ∙ imms-back (immsOf (ctrlInsts (c .1 .kind))) in
     let vs : valuesAt t (getD e 5 0) ≡ c .1 .ins = ap (map valueOf) (h .cell 5 (lit< tt) (fit values (lit< tt)) .is) ∙ values-back (c .1 .ins) (q .0) in
     let to : numbersAt t targets (getD e 6 0) ≡ c .1 .to = ap (map numberOf) (h .cell 6 (lit< tt) (fit targets (lit< tt)) .is) ∙ numbers-back (c .1 .to) in
     let vals : map (entryAt t) (slice entries t (getD e 7 0)) ≡ c .1 .vals =
-    ap (map (entryAt t)) (r .piece (fit entries (lit< tt)) .is) ∙ each-back (entryAt t) (λ e. every kept (e .1)) (entry-back fit) (r .vals) (every-gather kept (λ e. e .1) (c .1 .vals) (q .1)) in
+    ap (map (entryAt t)) (r .piece (fit entries (lit< tt)) .is) ∙ each-back (entryAt t) (λ e. every kept (e .1)) (entry-back fit) (r .vals) (every-parts kept (λ e. e .1) (c .1 .vals) (q .1)) in
     let kind : ctrlFrom (getD e 2 0) (instAt t (getD e 3 0) (getD e 4 0)) ≡ c .1 .kind =
     (λ i. ctrlFrom (h .cell 2 (lit< tt) i) (record { opcode = h .cell 3 (lit< tt) i; imms = is i })) ∙ ctrl-parts (c .1 .kind) in
     λ i. (h .cell 0 (lit< tt) i, record { attrs = h .cell 1 (lit< tt) i; kind = kind i; ins = vs i; to = to i; vals = vals i })
@@ -297,13 +299,13 @@ pub kept-lines : (F : Func) → every kept (text.values F) ≡ true
     × (every (λ o. every kept (o .operands)) (F .ops) ≡ true) × (every (λ c. every kept (ctrlValues c)) (F .ctrls) ≡ true)
 unfolding text.values
 kept-lines F e =
-    let r = every-append kept (gather (λ r. r .outs) (F .regions)) _ e in
-    let n = every-append kept (gather nodeValues (F .nodes)) _ (r .1) in
-    let o = every-append kept (gather (λ o. o .operands) (F .ops)) _ (n .1) in (
-      every-gather kept (λ r. r .outs) (F .regions) (r .0),
-      every-gather kept nodeValues (F .nodes) (n .0),
-      every-gather kept (λ o. o .operands) (F .ops) (o .0),
-      every-gather kept ctrlValues (F .ctrls) (o .1),
+    let r = every-split kept (gather (λ r. r .outs) (F .regions)) _ e in
+    let n = every-split kept (gather nodeValues (F .nodes)) _ (r .1) in
+    let o = every-split kept (gather (λ o. o .operands) (F .ops)) _ (n .1) in (
+      every-parts kept (λ r. r .outs) (F .regions) (r .0),
+      every-parts kept nodeValues (F .nodes) (n .0),
+      every-parts kept (λ o. o .operands) (F .ops) (o .0),
+      every-parts kept ctrlValues (F .ctrls) (o .1),
     )
 
 module _ (F : Func) {w : List ℕ} (c : Clear w) where

@@ -8,10 +8,10 @@ use mathlib.Core.List.{List, [], _∷_, _++_, map}
 use Prim.Native.Nat.{ℕ}
 use lib.Dec.{eqb, lit<}
 use lib.ListN.{length}
-use Rattle.lifting.specs.Lists.{gather}
+use Rattle.laws.specs.Lists.{gather}
 use Rattle.lifting.specs.Ast.{Value, const, regionInput, nodeOutput, dataInstOutput, Imm, Op, Decl, Node, Region, ControlInst, Const}
 use Rattle.lifting.specs.Parts.{childrenOf, outsOf, nodeValues, nodeInsts, opInsts, ctrlInsts, blockOps}
-use Rattle.func.specs.Lists.{gather-none}
+use Rattle.laws.specs.Gather.{gather-none}
 use Rattle.func.specs.Layout.{consts, params, decls, values, imms, targets, nodeRefs, opRefs, childRefs, entries, regions, nodes, ops, ctrls, shapes, lay, pools, poolOf, width}
 use Rattle.func.specs.Store.{folds}
 use Rattle.func.specs.Adds.{Ready, Adds, ready-after, adds-then, Wide, wide-map, grown, adds-folds, grown-gather}

@@ -2,7 +2,7 @@
 -- fixed number of them. Pool k's count stands at word 4 + k, the largest first word that it was given at word 18 + k, and its entries one
 -- after the other from its base on. The pools follow one another from word 32 on. Assumes nothing.
 --     apart      two pools do not overlap
---     inside     a pool lies above the counts and below word 16,384, with room for 2,048 entries at most, of 1 to 8 words
+--     inside     a pool lies above the counts and below `funcNeed`, with room for 2,048 entries at most, of 1 to 8 words
 --     spot       so an entry does
 --     entryWords, entryRoom     the widths and the rooms as numbers
 use mathlib.Core.Path.{_≡_, refl, ap, _∙_}
@@ -15,9 +15,10 @@ use native.Mathlib.Omega.{arith}
 use lib.Dec.{leb, ltb}
 use borrow.Author.Tests.{leb-true, ltb-true, ltb-false}
 use lib.ListN.{length, getD, List·getD-map}
-use Rattle.lifting.specs.Lists.{every}
-use Rattle.func.specs.Lists.{both, every-at}
-use Rattle.lifting.specs.Limits.{maxRegions, maxNodes, maxOps, maxConsts, maxParams, maxValues, maxDecls, maxImmediates, maxTargets, scratchWords}
+use Rattle.laws.specs.Every.{every-at}
+use Rattle.laws.specs.Tests.{both}
+use Rattle.laws.specs.Lists.{every}
+use Rattle.lifting.specs.Limits.{maxRegions, maxNodes, maxOps, maxConsts, maxParams, maxValues, maxDecls, maxImmediates, maxTargets}
 
 pub record Pool : Type 0 where
   pub base : ℕ
@@ -125,6 +126,14 @@ room k = poolOf k .room
 unfoldable pub end : ℕ → ℕ
 end k = base k + room k * width k
 
+-- the first word that no pool has: what the function slice needs
+abbrev pub funcNeed : ℕ
+funcNeed = 15648
+
+pub need-is : end ctrls ≡ funcNeed
+unfolding end base width room poolOf pools shapes lay
+need-is = refl
+
 -- THE test: each pool lies above the counts and within the slice, its entries and their number are small, and the pools after it begin
 -- where it has ended.
 endOf : Pool → ℕ
@@ -132,7 +141,7 @@ endOf p = p .base + p .room * p .width
 
 placed : Pool → Bool
 unfolding endOf
-placed p = leb 32 (p .base) && leb (endOf p) scratchWords && leb (p .room) 2048 && leb (p .width) 8 && leb 1 (p .width)
+placed p = leb 32 (p .base) && leb (endOf p) funcNeed && leb (p .room) 2048 && leb (p .width) 8 && leb 1 (p .width)
 
 before : Pool → Pool → Bool
 unfolding endOf
@@ -169,7 +178,7 @@ before-at (p ∷ ps) e (suc j) (suc k) d l h = before-at ps (parts p ps e .2) j 
 -- Where pool k lies.
 pub record Placed (k : ℕ) : Type 0 where
   pub above : 32 ≤ base k
-  pub below : end k ≤ scratchWords
+  pub below : end k ≤ funcNeed
   pub room : room k ≤ 2048
   pub narrow : width k ≤ 8
   pub wide : 1 ≤ width k
@@ -178,10 +187,10 @@ pub inside : (k : ℕ) → k < poolTotal → Placed k
 unfolding base width room end poolOf placed endOf
 inside k h =
     let p = poolOf k in
-    let z = both (leb 32 (p .base) && leb (endOf p) scratchWords && leb (p .room) 2048 && leb (p .width) 8) (leb 1 (p .width)) (placed-at pools passed k _ total) in
-    let a = both (leb 32 (p .base) && leb (endOf p) scratchWords && leb (p .room) 2048) (leb (p .width) 8) (z .0) in
-    let b = both (leb 32 (p .base) && leb (endOf p) scratchWords) (leb (p .room) 2048) (a .0) in
-    let c = both (leb 32 (p .base)) (leb (endOf p) scratchWords) (b .0) in
+    let z = both (leb 32 (p .base) && leb (endOf p) funcNeed && leb (p .room) 2048 && leb (p .width) 8) (leb 1 (p .width)) (placed-at pools passed k _ total) in
+    let a = both (leb 32 (p .base) && leb (endOf p) funcNeed && leb (p .room) 2048) (leb (p .width) 8) (z .0) in
+    let b = both (leb 32 (p .base) && leb (endOf p) funcNeed) (leb (p .room) 2048) (a .0) in
+    let c = both (leb 32 (p .base)) (leb (endOf p) funcNeed) (b .0) in
     record { above = leb-true _ _ (c .0); below = leb-true _ _ (c .1); room = leb-true _ _ (b .1); narrow = leb-true _ _ (a .1); wide = leb-true _ _ (z .1) }
   where
     total : k < length pools
@@ -215,7 +224,7 @@ pub entry-before : (k i j : ℕ) → i < j → base k + i * width k + width k �
 entry-before k i j h = omega (arith, mul-le-mul-right (width k) h, suc-mul i (width k))
 
 -- the same of a place that was computed
-pub spot : (k i b v : ℕ) → k < poolTotal → i < room k → b ≡ base k → v ≡ width k → (b + i * v ≡ base k + i * width k) × (b + i * v + width k ≤ scratchWords)
+pub spot : (k i b v : ℕ) → k < poolTotal → i < room k → b ≡ base k → v ≡ width k → (b + i * v ≡ base k + i * width k) × (b + i * v + width k ≤ funcNeed)
 spot k i b v l h e q =
     let same : b + i * v ≡ base k + i * width k = ap (λ (n : ℕ). n + i * v) e ∙ ap (λ (n : ℕ). base k + i * n) q in
     (same, omega (arith, inside k l .below, entry-inside k i h))

@@ -1,5 +1,5 @@
 -- The function slice: its pools, what a text stores there, and the function that stands there.
-pub mod Lists
+pub mod Laws
 pub mod Layout
 pub mod Store
 pub mod Adds

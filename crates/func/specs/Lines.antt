@@ -13,9 +13,9 @@ use native.Mathlib.Omega.{arith}
 use lib.Dec.{ltb, eqb}
 use lib.ListN.{length, getD, take, drop}
 use borrow.Author.Tests.{ltb-true, eqb-true, eqb-false, not-true, eq-eqb, ne-eqb}
-use Rattle.words.specs.Tab.{slice-middle}
-use Rattle.lifting.specs.Lists.{every}
-use Rattle.func.specs.Lists.{both}
+use Rattle.laws.specs.Tests.{both}
+use Rattle.laws.specs.Tab.{slice-middle}
+use Rattle.laws.specs.Lists.{every}
 use Rattle.func.specs.Layout.{poolTotal, width, room, inside, entryRoom, entry-room}
 use Rattle.func.specs.Store.{count, view, push, folds, length-view}
 use Rattle.func.specs.Adds.{Ready, Adds, ready-after, adds-same, adds-none, adds-then, into, adds-push, Wide, adds-many, grown, adds-folds}

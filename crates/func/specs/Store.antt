@@ -17,10 +17,9 @@ use lib.Dec.{ltb}
 use lib.ListN.{length, getD, set, length-set}
 use lib.Seq.{sets, length-sets, getD-set-same, getD-set-other}
 use borrow.Author.Tests.{ltb-true, ltb-false, lt-ltb, le-ltb}
-use Rattle.words.specs.Part.{part, part-before, part-after, part-same, at-before}
-use Rattle.words.specs.Tab.{tab, length-tab, tab-same, tab-more}
-use Rattle.lifting.specs.Limits.{scratchWords}
-use Rattle.func.specs.Layout.{poolTotal, base, width, room, inside, apart, entry-inside, entry-before}
+use Rattle.laws.specs.Part.{part, part-before, part-after, part-same, at-before}
+use Rattle.laws.specs.Tab.{tab, length-tab, tab-same, tab-more}
+use Rattle.func.specs.Layout.{funcNeed, poolTotal, base, width, room, inside, apart, entry-inside, entry-before}
 
 -- the largest first word of what pool k was given
 unfoldable pub most : ℕ → List ℕ → ℕ
@@ -94,7 +93,7 @@ count-place-other : (k j : ℕ) (e w : List ℕ) → k < poolTotal → j < poolT
 unfolding count
 count-place-other k j e w l m n = low-place k e w (4 + j) l (omega arith) (λ q. n (omega arith))
 
-count-place : (k : ℕ) (e w : List ℕ) → k < poolTotal → scratchWords ≤ length w → count k (place k e w) ≡ min (count k w + 1) (room k + 1)
+count-place : (k : ℕ) (e w : List ℕ) → k < poolTotal → funcNeed ≤ length w → count k (place k e w) ≡ min (count k w + 1) (room k + 1)
 unfolding count stored
 count-place k e w l s =
     ⊎-elim
@@ -142,7 +141,7 @@ view-place-other k j e w l m n q =
         (λ g. ap (λ (u : List ℕ). entry j u i) (place-no k e w g) ∙ entry-low j i (4 + k) (room k + 1) w m (omega arith))
         (cases k w)
 
-view-place-full : (k : ℕ) (e w : List ℕ) → k < poolTotal → scratchWords ≤ length w → room k ≤ count k w → view k (place k e w) ≡ view k w
+view-place-full : (k : ℕ) (e w : List ℕ) → k < poolTotal → funcNeed ≤ length w → room k ≤ count k w → view k (place k e w) ≡ view k w
 unfolding view
 view-place-full k e w l s h =
     ap (λ (c : ℕ). tab c (entry k (place k e w))) (omega (arith, count-place k e w l s))
@@ -151,7 +150,7 @@ view-place-full k e w l s h =
     each : (i : ℕ) → i < min (count k w) (room k) → entry k (place k e w) i ≡ entry k w i
     each i g = ap (λ (u : List ℕ). entry k u i) (place-no k e w h) ∙ entry-low k i (4 + k) (room k + 1) w l (omega arith)
 
-view-place : (k : ℕ) (e w : List ℕ) → k < poolTotal → scratchWords ≤ length w → length e ≡ width k → count k w < room k → view k (place k e w) ≡ view k w ++ e ∷ []
+view-place : (k : ℕ) (e w : List ℕ) → k < poolTotal → funcNeed ≤ length w → length e ≡ width k → count k w < room k → view k (place k e w) ≡ view k w ++ e ∷ []
 unfolding view entry stored
 view-place k e w l s q h =
     ap (λ (c : ℕ). tab c (entry k (place k e w))) (omega (arith, count-place k e w l s))
@@ -217,11 +216,11 @@ pub count-other : (k j : ℕ) (e w : List ℕ) → k < poolTotal → j < poolTot
 unfolding push
 count-other k j e w l m n = count-raise k (getD e 0 0) (place k e w) j m ∙ count-place-other k j e w l m n
 
-pub count-push : (k : ℕ) (e w : List ℕ) → k < poolTotal → scratchWords ≤ length w → count k (push k e w) ≡ min (count k w + 1) (room k + 1)
+pub count-push : (k : ℕ) (e w : List ℕ) → k < poolTotal → funcNeed ≤ length w → count k (push k e w) ≡ min (count k w + 1) (room k + 1)
 unfolding push
 count-push k e w l s = count-raise k (getD e 0 0) (place k e w) k l ∙ count-place k e w l s
 
-pub most-push : (k : ℕ) (e w : List ℕ) → k < poolTotal → scratchWords ≤ length w → most k (push k e w) ≡ max (most k w) (getD e 0 0)
+pub most-push : (k : ℕ) (e w : List ℕ) → k < poolTotal → funcNeed ≤ length w → most k (push k e w) ≡ max (most k w) (getD e 0 0)
 unfolding push raise most
 most-push k e w l s =
     getD-set-same (place k e w) (18 + k) (max (getD (place k e w) (18 + k) 0) (getD e 0 0)) 0 (omega (arith, length-place k e w))
@@ -235,10 +234,10 @@ pub view-other : (k j : ℕ) (e w : List ℕ) → k < poolTotal → j < poolTota
 unfolding push
 view-other k j e w l m n q = view-raise k (getD e 0 0) (place k e w) j l m ∙ view-place-other k j e w l m n q
 
-pub view-full : (k : ℕ) (e w : List ℕ) → k < poolTotal → scratchWords ≤ length w → room k ≤ count k w → view k (push k e w) ≡ view k w
+pub view-full : (k : ℕ) (e w : List ℕ) → k < poolTotal → funcNeed ≤ length w → room k ≤ count k w → view k (push k e w) ≡ view k w
 unfolding push
 view-full k e w l s h = view-raise k (getD e 0 0) (place k e w) k l l ∙ view-place-full k e w l s h
 
-pub view-push : (k : ℕ) (e w : List ℕ) → k < poolTotal → scratchWords ≤ length w → length e ≡ width k → count k w < room k → view k (push k e w) ≡ view k w ++ e ∷ []
+pub view-push : (k : ℕ) (e w : List ℕ) → k < poolTotal → funcNeed ≤ length w → length e ≡ width k → count k w < room k → view k (push k e w) ≡ view k w ++ e ∷ []
 unfolding push
 view-push k e w l s q h = view-raise k (getD e 0 0) (place k e w) k l l ∙ view-place k e w l s q h

@@ -4,27 +4,27 @@
 --     region-nodes, node-children      the nodes of a region and the child regions of a node
 --     ins-count, outs-count, ..        how many elements a list of a region or of a node has
 --     node-kind, op-type               the number of a node's kind, and an op's result type
-use mathlib.Core.Path.{_≡_}
+use mathlib.Core.Path.{_≡_, refl, ap}
 use mathlib.Core.List.{List, [], _∷_, map}
 use Prim.Native.Nat.{ℕ, _+_, _%_, _≤_, _<_, min}
 use native.Mathlib.Omega.{arith}
 use lib.Dec.{lit<}
 use lib.ListN.{length, getD}
-use Rattle.lifting.specs.Limits.{scratchWords}
 use Rattle.lifting.specs.Ast.{Func}
 use Rattle.lifting.specs.Parts.{childrenOf, nodeValues, outsOf}
 use Rattle.lifting.specs.Parts as text
-use Rattle.func.specs.Layout.{poolTotal, decls, values, nodeRefs, childRefs, entries, regions, nodes, ops, ctrls, entryRoom}
+use Rattle.func.specs.Layout.{funcNeed, poolTotal, decls, values, nodeRefs, childRefs, entries, regions, nodes, ops, ctrls, entryRoom}
 use Rattle.func.specs.Store.{count, most, view}
 use Rattle.func.specs.Adds.{largest}
 use Rattle.func.specs.Lines.{Row, each-at, each-length}
 use Rattle.func.specs.Keep.{single, declWords, valueWords, nodeNumber, regionCells, nodeCells, opCells, keepFunc}
+use Rattle.func.specs.Decode.{numberOf}
 use Rattle.func.specs.Whole.{Clear, adds-func, clear-head, collections, sizes, entryList, count-func, view-func, most-func, most-entries, most-ctrls}
 use Rattle.func.specs.Back.{Rows, rows-func, head-func}
 use Rattle.func.specs.Tables.{Listed, list-count, word, whole-pool, Within}
 
 pub record Stored (F : Func) (w : List ℕ) : Type 0 where
-  pub size : scratchWords ≤ length w
+  pub size : funcNeed ≤ length w
   pub head : (j : ℕ) → j < 4 → getD w j 0 ≡ getD (F .attrs ∷ F .ret ∷ F .type ∷ F .control ∷ []) j 0
   pub counts : (k : ℕ) → k < poolTotal → count k w ≡ min (getD (sizes F) k 0) (entryRoom k + 1)
   -- a pool of parts that is within its room, and the largest first words, whatever the room
@@ -96,3 +96,8 @@ module _ {F : Func} {w : List ℕ} (s : Stored F w) where
     pub op-type : word ops w i 1 ≡ text.opOf F i .type
     unfolding opCells
     op-type = each-at (s .rows .ops f) i _ h .cell 1 (lit< tt)
+
+-- the numbers of a pool of references, taken back out of their entries
+pub unsingle : (l : List ℕ) → map numberOf (map single l) ≡ l
+unsingle [] = refl
+unsingle (x ∷ l) = ap (λ (m : List ℕ). x ∷ m) (unsingle l)

@@ -13,15 +13,14 @@ use native.Mathlib.Omega.{arith}
 use lib.Dec.{lit<}
 use lib.ListN.{length, getD, drop, length-map, length-take, length-drop, List·getD-map}
 use lib.Seq.{getD-take, getD-drop}
-use Rattle.words.specs.Part.{part-at}
-use Rattle.words.specs.Tab.{getD-tab}
-use Rattle.lifting.specs.Limits.{scratchWords}
-use Rattle.lifting.specs.Lists.{every, gather}
+use Rattle.laws.specs.Every.{every-at, every-parts, every-split}
+use Rattle.laws.specs.Part.{part-at}
+use Rattle.laws.specs.Tab.{getD-tab}
+use Rattle.laws.specs.Lists.{every, gather}
 use Rattle.lifting.specs.Ast.{Value, Op, Decl, Node, Region, ControlInst, Func, unreachable}
 use Rattle.lifting.specs.Parts.{nodeValues, nodeInsts, blockOps, childrenOf, outsOf, opInsts, ctrlInsts, ctrlValues}
 use Rattle.lifting.specs.Parts as text
-use Rattle.func.specs.Lists.{every-at, every-append, every-gather}
-use Rattle.func.specs.Layout.{poolTotal, consts, params, decls, values, imms, targets, nodeRefs, opRefs, childRefs, entries, regions, nodes, ops, ctrls, base, width, room, entryRoom, entry-room}
+use Rattle.func.specs.Layout.{funcNeed, poolTotal, consts, params, decls, values, imms, targets, nodeRefs, opRefs, childRefs, entries, regions, nodes, ops, ctrls, base, width, room, entryRoom, entry-room}
 use Rattle.func.specs.Store.{count, entry, view, length-view}
 use Rattle.func.specs.Lines.{slice, Piece, Row, each-length, each-at}
 use Rattle.func.specs.Keep.{single, declWords, immWords, valueWords, immsOf, opcodeOf, nodeNumber, opNumber, opFirst, opSecond, ctrlNumber, regionCells, nodeCells, opCells, entryCells, ctrlCells, keepFunc}
@@ -30,7 +29,7 @@ use Rattle.func.specs.Whole.{Clear, adds-func, clear-head}
 use Rattle.func.specs.Back.{Fit, kept, value-back, CtrlRow, Fits, Rows, rows-func, func-back, all-fit, kept-lines}
 
 pub record Tables (w : List ℕ) : Type 0 where
-  pub size : scratchWords ≤ length w
+  pub size : funcNeed ≤ length w
   pub counts : Fit w
   pub rows : Rows (funcOf w) w
   pub firsts : every kept (text.values (funcOf w)) ≡ true
@@ -45,7 +44,7 @@ tables-func F {w} c f = record {
 
 -- entry i of pool k may be read
 pub record Within (k : ℕ) (w : List ℕ) (i : ℕ) : Type 0 where
-  pub size : scratchWords ≤ length w
+  pub size : funcNeed ≤ length w
   pub pool : k < poolTotal
   pub fits : count k w ≤ entryRoom k
   pub below : i < count k w
@@ -164,7 +163,7 @@ module _ {w : List ℕ} (t : Tables w) where
   ctrl-kept i h = every-at (λ (c : ℕ × ControlInst). every kept (ctrlValues c)) (funcOf w .ctrls) (kept-lines (funcOf w) (t .firsts) .3) i _ h
 
   pub ins-kept : (i : ℕ) → i < length (funcOf w .ctrls) → every kept (ctrlLine (funcOf w) i .1 .ins) ≡ true
-  ins-kept i h = let c = ctrlLine (funcOf w) i in every-append kept (c .1 .ins) (gather (λ e. e .1) (c .1 .vals)) (ctrl-kept i h) .0
+  ins-kept i h = let c = ctrlLine (funcOf w) i in every-split kept (c .1 .ins) (gather (λ e. e .1) (c .1 .vals)) (ctrl-kept i h) .0
 
 -- A list in a pool, by its run.
 getD-mapped : {A B : Type 0} (f : A → B) (xs : List A) (i : ℕ) (a : A) (b : B) → i < length xs → getD (map f xs) i b ≡ f (getD xs i a)
@@ -178,7 +177,7 @@ map-id (e ∷ es) = ap (λ (l : List (List ℕ)). e ∷ l) (map-id es)
 
 -- the list xs stands, by the words f of its elements, in pool p at the run x
 pub record Listed (p : ℕ) {A : Type 0} (f : A → List ℕ) (xs : List A) (w : List ℕ) (x : ℕ) : Type 0 where
-  pub size : scratchWords ≤ length w
+  pub size : funcNeed ≤ length w
   pub fits : count p w ≤ entryRoom p
   pub pool : p < poolTotal
   pub piece : Piece p (map f xs) w x
@@ -330,7 +329,7 @@ module _ {w : List ℕ} (t : Tables w) (i : ℕ) (h : i < length (funcOf w .ctrl
     entry-kept =
         let c = ctrlLine (funcOf w) i in
         every-at (λ (v : ℕ × List Value). every kept (v .1)) (c .1 .vals)
-        (every-gather kept (λ e. e .1) (c .1 .vals) (every-append kept (c .1 .ins) (gather (λ e. e .1) (c .1 .vals)) (ctrl-kept t i h) .1))
+        (every-parts kept (λ e. e .1) (c .1 .vals) (every-split kept (c .1 .ins) (gather (λ e. e .1) (c .1 .vals)) (ctrl-kept t i h) .1))
         e
         (0, [])
         l

@@ -12,14 +12,13 @@ use lib.Dec.{eqb, ltb, lit<}
 use lib.ListN.{length, getD, replicate, getD-replicate, length-replicate, length-append, length-map}
 use lib.Seq.{length-sets}
 use borrow.Author.Tests.{ne-eqb, ltb-true, ltb-false}
-use Rattle.words.specs.Part.{at-after}
-use Rattle.words.specs.Tab.{tab}
-use Rattle.lifting.specs.Limits.{scratchWords}
-use Rattle.lifting.specs.Lists.{gather}
+use Rattle.laws.specs.Part.{at-after}
+use Rattle.laws.specs.Tab.{tab}
+use Rattle.laws.specs.Lists.{gather}
 use Rattle.lifting.specs.Ast.{Value, Op, Decl, Node, Region, ControlInst, Const, Func}
 use Rattle.lifting.specs.Parts as text
-use Rattle.func.specs.Lists.{map-append, map-gather, gather-none, gather-append, gather-gather, gather-single}
-use Rattle.func.specs.Layout.{poolTotal, consts, params, decls, values, targets, entries, regions, nodes, ops, ctrls, room, entryRoom, entry-room}
+use Rattle.laws.specs.Gather.{map-append, map-gather, gather-none, gather-append, gather-gather, gather-single}
+use Rattle.func.specs.Layout.{funcNeed, poolTotal, consts, params, decls, values, targets, entries, regions, nodes, ops, ctrls, room, entryRoom, entry-room}
 use Rattle.func.specs.Store.{count, most, entry, view, folds}
 use Rattle.func.specs.Adds.{Ready, Adds, ready-after, adds-then, into, adds-push, grown, adds-folds, grown-gather, grown-length, grown-none, largest, grown-largest}
 use Rattle.func.specs.Lines.{Cell, keepCells, rowOf, gained, lineGain}
@@ -28,11 +27,11 @@ use Rattle.func.specs.Gains.{const-wide, param-wide, rowFor, ctrlRowOf, 
 
 -- words that a text may be stored to: every pool is empty
 pub record Clear (w : List ℕ) : Type 0 where
-  pub size : scratchWords ≤ length w
+  pub size : funcNeed ≤ length w
   pub empty : (k : ℕ) → k < poolTotal → count k w ≡ 0
   pub least : (k : ℕ) → k < poolTotal → most k w ≡ 0
 
-pub clear-zeros : (n : ℕ) → scratchWords ≤ n → Clear (replicate n 0)
+pub clear-zeros : (n : ℕ) → funcNeed ≤ n → Clear (replicate n 0)
 unfolding count most
 clear-zeros n h = record {
   size = omega (arith, length-replicate {A = ℕ} n 0);

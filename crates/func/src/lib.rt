@@ -1,27 +1,5 @@
 // The function slice: what the text of one function stores, and the function that stands there. The slice holds pools (specs/Layout), and no
-// crate above looks at its words: `keep` stores, `look` answers, and `rows` answers of a text that is not known to fit.
-pub mod keep;
-pub mod look;
-pub mod pools;
-pub mod rows;
-
-pub use pools::CHILD_REFS;
-pub use pools::CONSTS;
-pub use pools::CTRLS;
-pub use pools::DECLS;
-pub use pools::ENTRIES;
-pub use pools::IMMS;
-pub use pools::NODE_REFS;
-pub use pools::NODES;
-pub use pools::OP_REFS;
-pub use pools::OPS;
-pub use pools::PARAMS;
-pub use pools::REGIONS;
-pub use pools::TARGETS;
-pub use pools::VALUES;
-pub use pools::clear;
-pub use pools::count;
-pub use pools::most;
+// crate above looks at its words: crate func_store stores, func_look answers, and func_rows answers of a text that is not known to fit.
 
 // A value V: constant, input of a region, output of a node, result of an op.
 pub enum Val {

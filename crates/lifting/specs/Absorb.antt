@@ -4,7 +4,7 @@ use mathlib.Core.List.{List, [], _∷_, _++_}
 use mathlib.Core.Option.{Option, none, some}
 use Prim.Native.Nat.{ℕ, zero, suc, _+_}
 use native.Mathlib.Decide.{ℕ-discrete}
-use Rattle.lifting.specs.Lists.{choose, times}
+use Rattle.laws.specs.Lists.{choose, times}
 use Rattle.lifting.specs.Ast.{Value, ControlInstKind, unreachable, return, branch, selectBranch, exitInvocation}
 use Rattle.lifting.specs.Points.{CfgPoint, eqPoint, Merge, noMerge, selectionMerge, loopMerge, Terminator, BlockLifting, Table, points, nothingHere, blockAt}
 

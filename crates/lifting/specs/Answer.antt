@@ -7,11 +7,13 @@ use Prim.Native.Nat.{ℕ, suc}
 use native.Mathlib.Decide.{ℕ-discrete}
 use lib.Dec.{leb, ltb, eqb}
 use lib.ListN.{length, drop, replicate}
-use Rattle.lifting.specs.Lists.{every, gather, member}
+use Rattle.refusals.specs.declared.Refusal.the-variants.{Long, Forms, Limits, References, Tree, Counts, Control, Scratch, Ids, Values, Output, Targets}
+use Rattle.refusals.specs.Numbers.{refusalNumber}
+use Rattle.laws.specs.Lists.{every, gather, member}
 use Rattle.lifting.specs.Ast.{Value, const, regionInput, nodeOutput, dataInstOutput, eqValue, Func}
 use Rattle.lifting.specs.Grammar.{read}
 use Rattle.lifting.specs.Parts.{opOf, ids}
-use Rattle.lifting.specs.Limits.{maxBytes, scratchWords, highestId, withinLimits}
+use Rattle.lifting.specs.Limits.{maxBytes, funcWords, workWords, highestId, withinLimits}
 use Rattle.lifting.specs.References.{referencesHold}
 use Rattle.lifting.specs.Tree.{isTree}
 use Rattle.lifting.specs.Counts.{countsAgree}
@@ -33,14 +35,14 @@ unfoldable pub checked : Func → Parsed
 unfolding withinLimits referencesHold isTree countsAgree controlFits targetsDiffer
 checked F =
     elim (withinLimits F) [
-      | false ↦ denied 3
+      | false ↦ denied (refusalNumber Limits)
       | true ↦ elim (referencesHold F) [
-        | false ↦ denied 4
+        | false ↦ denied (refusalNumber References)
         | true ↦ elim (isTree F) [
-          | false ↦ denied 5
+          | false ↦ denied (refusalNumber Tree)
           | true ↦ elim (countsAgree F) [
-            | false ↦ denied 6
-            | true ↦ elim (controlFits F) [ false ↦ denied 7 | true ↦ elim (targetsDiffer F) [ false ↦ denied 13 | true ↦ parsed F ] ]
+            | false ↦ denied (refusalNumber Counts)
+            | true ↦ elim (controlFits F) [ false ↦ denied (refusalNumber Control) | true ↦ elim (targetsDiffer F) [ false ↦ denied (refusalNumber Targets) | true ↦ parsed F ] ]
           ]
         ]
       ]
@@ -49,16 +51,16 @@ checked F =
 -- 2 the text is not of the forms (the empty text too)
 unfoldable pub formed : Option Func → Parsed
 unfolding checked
-formed none = denied 2
+formed none = denied (refusalNumber Forms)
 formed (some F) = checked F
 
 -- 8 a scratch slice under 16,384 words, then 1 text over 32,768 bytes: the text, and the lengths of the function slice and the work slice
 unfoldable pub parse : List ℕ → ℕ → ℕ → Parsed
 unfolding read formed
 parse text func work =
-    elim (leb scratchWords func && leb scratchWords work) [
-      | false ↦ denied 8
-      | true ↦ elim (leb (length text) maxBytes) [ false ↦ denied 1 | true ↦ formed (read text) ]
+    elim (leb funcWords func && leb workWords work) [
+      | false ↦ denied (refusalNumber Scratch)
+      | true ↦ elim (leb (length text) maxBytes) [ false ↦ denied (refusalNumber Long) | true ↦ formed (read text) ]
     ]
 
 -- 9 the first id is 0 or not above every id in the text, or an id over 4,194,302 would be given (document 02, W3)
@@ -98,16 +100,16 @@ pub data Answer : Type 0 where
 
 -- 11 the output slice is shorter than the list
 unfoldable pub written : List ℕ → ℕ → ℕ → Answer
-written ws next out = elim (leb (length ws) out) [ false ↦ refused 11 | true ↦ listed ws next ]
+written ws next out = elim (leb (length ws) out) [ false ↦ refused (refusalNumber Output) | true ↦ listed ws next ]
 
 unfoldable pub lifted : Parsed → ℕ → ℕ → Answer
 unfolding idsFit valuesSet written words listOf nextId walkOf kept
 lifted (denied n) first out = refused n
 lifted (parsed F) first out =
     elim (idsFit F first) [
-      | false ↦ refused 9
+      | false ↦ refused (refusalNumber Ids)
       | true ↦ elim (valuesSet F) [
-        | false ↦ refused 10
+        | false ↦ refused (refusalNumber Values)
         | true ↦ written (words (listOf F first)) (nextId F first (walkOf F) (kept (walkOf F))) out
       ]
     ]
@@ -124,7 +126,7 @@ zerosUnless8 false ws = replicate (length ws) 0
 
 abbrev pub scratchAfter : Answer → List ℕ → List ℕ
 scratchAfter (listed ws next) scratch = replicate (length scratch) 0
-scratchAfter (refused n) scratch = zerosUnless8 (eqb n 8) scratch
+scratchAfter (refused n) scratch = zerosUnless8 (eqb n (refusalNumber Scratch)) scratch
 
 -- Output beyond the list keeps its words; a refusal leaves the output slice alone.
 abbrev pub outAfter : Answer → List ℕ → List ℕ

@@ -447,7 +447,8 @@ pub record Fits (f : Func) : Type 0 where
 abbrev pub TextForm : Type 0
 TextForm = (ℕ × (ℕ × (ℕ × ℕ))) × (List Const × (List Decl × Regions))
 
-abbrev toFunc : TextForm → Func
+-- its function
+abbrev pub toFunc : TextForm → Func
 toFunc x =
     record {
       attrs = x .0 .0;

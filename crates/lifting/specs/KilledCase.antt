@@ -8,7 +8,7 @@ use native.Mathlib.Decide.{ℕ-discrete}
 use Rattle.lifting.specs.Bytes.{bytes}
 use Rattle.lifting.specs.Ast.{eqValue, Func}
 use Rattle.lifting.specs.Grammar.{read}
-use Rattle.lifting.specs.Limits.{scratchWords}
+use Rattle.lifting.specs.Limits.{funcWords, workWords}
 use Rattle.lifting.specs.Words.{listFrom}
 use Rattle.lifting.specs.Answer.{listed, answer}
 use Rattle.lifting.specs.World.{End, Executed, exited}
@@ -35,7 +35,7 @@ text = bytes "(func 0 2 3 0)\n(const 5 43)\n(const 6 43)\n(region (in) (nodes 0)
 unfoldable pub writtenWords : List ℕ
 writtenWords = 54 ∷ 0 ∷ 2 ∷ 10 ∷ 1 ∷ 0 ∷ 1 ∷ 0 ∷ 1 ∷ 3 ∷ 248 ∷ 0 ∷ 0 ∷ 14 ∷ 0 ∷ 0 ∷ 249 ∷ 0 ∷ 0 ∷ 0 ∷ 0 ∷ 1 ∷ 15 ∷ 248 ∷ 0 ∷ 0 ∷ 15 ∷ 0 ∷ 0 ∷ 245 ∷ 0 ∷ 4 ∷ 11 ∷ 0 ∷ 4 ∷ 5 ∷ 14 ∷ 12 ∷ 20 ∷ 246 ∷ 0 ∷ 0 ∷ 0 ∷ 1 ∷ 0 ∷ 3 ∷ 0 ∷ 2 ∷ 21 ∷ 20 ∷ 249 ∷ 0 ∷ 0 ∷ 0 ∷ 0 ∷ 1 ∷ 16 ∷ 248 ∷ 0 ∷ 0 ∷ 16 ∷ 0 ∷ 0 ∷ 128 ∷ 0 ∷ 4 ∷ 13 ∷ 0 ∷ 1 ∷ 11 ∷ 247 ∷ 0 ∷ 0 ∷ 0 ∷ 1 ∷ 0 ∷ 2 ∷ 0 ∷ 1 ∷ 19 ∷ 250 ∷ 0 ∷ 0 ∷ 0 ∷ 0 ∷ 3 ∷ 13 ∷ 17 ∷ 18 ∷ 248 ∷ 0 ∷ 0 ∷ 17 ∷ 0 ∷ 0 ∷ 249 ∷ 0 ∷ 0 ∷ 0 ∷ 0 ∷ 1 ∷ 19 ∷ 248 ∷ 0 ∷ 0 ∷ 18 ∷ 0 ∷ 0 ∷ 252 ∷ 0 ∷ 0 ∷ 0 ∷ 0 ∷ 1 ∷ 11 ∷ 248 ∷ 0 ∷ 0 ∷ 19 ∷ 0 ∷ 0 ∷ 245 ∷ 0 ∷ 4 ∷ 12 ∷ 0 ∷ 2 ∷ 6 ∷ 17 ∷ 249 ∷ 0 ∷ 0 ∷ 0 ∷ 0 ∷ 1 ∷ 20 ∷ 248 ∷ 0 ∷ 0 ∷ 20 ∷ 0 ∷ 0 ∷ 250 ∷ 0 ∷ 0 ∷ 0 ∷ 0 ∷ 3 ∷ 13 ∷ 15 ∷ 21 ∷ 248 ∷ 0 ∷ 0 ∷ 21 ∷ 0 ∷ 0 ∷ 253 ∷ 0 ∷ 0 ∷ 0 ∷ 0 ∷ 0 ∷ 56 ∷ 0 ∷ 0 ∷ 0 ∷ 0 ∷ 0 ∷ []
 
-pub is-listed : answer text 10 scratchWords scratchWords scratchWords ≡ listed writtenWords 22
+pub is-listed : answer text 10 funcWords workWords 16384 ≡ listed writtenWords 22
 unfolding answer text writtenWords
 is-listed = refl
 

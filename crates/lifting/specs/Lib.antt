@@ -1,4 +1,4 @@
-pub mod Lists
+-- The definitions that every promise cites: the text and its grammar, the refusals, the list, and the runs of both.
 pub mod Ast
 pub mod Bytes
 pub mod Digits

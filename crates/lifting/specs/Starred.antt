@@ -9,8 +9,8 @@ use lib.Dec.{eqb}
 use lib.ListN.{length}
 use Rattle.opcodes.specs.declared.InstKind.the-variants.{Phi}
 use Rattle.lifting.specs.Bytes.{bytes}
-use Rattle.lifting.specs.Lists.{every}
-use Rattle.lifting.specs.Limits.{scratchWords}
+use Rattle.laws.specs.Lists.{every}
+use Rattle.lifting.specs.Limits.{funcWords, workWords}
 use Rattle.lifting.specs.Instructions.{Instruction}
 use Rattle.lifting.specs.Words.{listFrom}
 use Rattle.lifting.specs.Answer.{Answer, listed, refused, answer}
@@ -56,7 +56,7 @@ holds (refused m) (refuses n) = eqb m n
 -- with slices of 16,384 words, as the program lends them
 unfoldable pub right : Row → Bool
 unfolding answer listFrom
-right r = holds (answer (bytes (r .text)) (r .first) scratchWords scratchWords scratchWords) (r .claim)
+right r = holds (answer (bytes (r .text)) (r .first) funcWords workWords 16384) (r .claim)
 
 abbrev row : String → ℕ → Claim → Row
 row t n c = record { text = t; first = n; claim = c }

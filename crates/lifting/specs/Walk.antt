@@ -29,6 +29,17 @@ abbrev pub someVals : CfgPoint → List Value → List (CfgPoint × List Value)
 someVals p [] = []
 someVals p (v ∷ vs) = (p, v ∷ vs) ∷ []
 
+-- the way out that a ctrl line says
+abbrev pub lineTerm : ControlInst → Terminator
+lineTerm c = record {
+  attrs = c .attrs;
+  kind = c .kind;
+  ins = c .ins;
+  targets = map regionEntry (c .to);
+  vals = map (λ e. (regionEntry (e .0), e .1)) (c .vals);
+  merge = noMerge;
+}
+
 module _ (F : Func) where
   -- phis for the inputs of a root but the body, whose inputs are the parameters
   abbrev pub entryKeys : ℕ → Place → List Value
@@ -47,14 +58,7 @@ module _ (F : Func) where
   -- the way out of a root: its ctrl line, or a return of its outputs
   abbrev pub rootTerm : Option ControlInst → ℕ → Terminator
   rootTerm none r = record { attrs = 0; kind = return; ins = regionOf F r .outs; targets = []; vals = []; merge = noMerge }
-  rootTerm (some c) r = record {
-    attrs = c .attrs;
-    kind = c .kind;
-    ins = c .ins;
-    targets = map regionEntry (c .to);
-    vals = map (λ e. (regionEntry (e .0), e .1)) (c .vals);
-    merge = noMerge;
-  }
+  rootTerm (some c) r = lineTerm c
 
   -- Condition opcode 41 makes a loop's way back unconditional.
   abbrev pub always : Value → Bool

@@ -10,7 +10,7 @@ use lib.ListN.{getD}
 use Rattle.lifting.specs.Bytes.{bytes}
 use Rattle.lifting.specs.Ast.{eqValue, Func}
 use Rattle.lifting.specs.Grammar.{read}
-use Rattle.lifting.specs.Limits.{scratchWords}
+use Rattle.lifting.specs.Limits.{funcWords, workWords}
 use Rattle.lifting.specs.Words.{listFrom}
 use Rattle.lifting.specs.Answer.{listed, answer}
 use Rattle.lifting.specs.Machine.{Out, halt, after}
@@ -39,7 +39,7 @@ text = bytes "(func 0 2 3 0)\n(const 5 43)\n(const 6 43)\n(region (in) (nodes 0 
 unfoldable pub writtenWords : List ℕ
 writtenWords = 54 ∷ 0 ∷ 2 ∷ 10 ∷ 1 ∷ 0 ∷ 1 ∷ 0 ∷ 1 ∷ 3 ∷ 248 ∷ 0 ∷ 0 ∷ 16 ∷ 0 ∷ 0 ∷ 249 ∷ 0 ∷ 0 ∷ 0 ∷ 0 ∷ 1 ∷ 17 ∷ 248 ∷ 0 ∷ 0 ∷ 17 ∷ 0 ∷ 0 ∷ 245 ∷ 0 ∷ 4 ∷ 11 ∷ 0 ∷ 4 ∷ 5 ∷ 16 ∷ 12 ∷ 19 ∷ 245 ∷ 0 ∷ 4 ∷ 12 ∷ 0 ∷ 4 ∷ 6 ∷ 16 ∷ 11 ∷ 19 ∷ 246 ∷ 0 ∷ 0 ∷ 0 ∷ 1 ∷ 0 ∷ 3 ∷ 0 ∷ 2 ∷ 20 ∷ 19 ∷ 249 ∷ 0 ∷ 0 ∷ 0 ∷ 0 ∷ 1 ∷ 18 ∷ 248 ∷ 0 ∷ 0 ∷ 18 ∷ 0 ∷ 0 ∷ 128 ∷ 0 ∷ 4 ∷ 14 ∷ 0 ∷ 2 ∷ 11 ∷ 12 ∷ 249 ∷ 0 ∷ 0 ∷ 0 ∷ 0 ∷ 1 ∷ 19 ∷ 248 ∷ 0 ∷ 0 ∷ 19 ∷ 0 ∷ 0 ∷ 250 ∷ 0 ∷ 0 ∷ 0 ∷ 0 ∷ 3 ∷ 14 ∷ 17 ∷ 20 ∷ 248 ∷ 0 ∷ 0 ∷ 20 ∷ 0 ∷ 0 ∷ 247 ∷ 0 ∷ 0 ∷ 0 ∷ 1 ∷ 0 ∷ 2 ∷ 0 ∷ 1 ∷ 23 ∷ 250 ∷ 0 ∷ 0 ∷ 0 ∷ 0 ∷ 3 ∷ 6 ∷ 21 ∷ 22 ∷ 248 ∷ 0 ∷ 0 ∷ 21 ∷ 0 ∷ 0 ∷ 249 ∷ 0 ∷ 0 ∷ 0 ∷ 0 ∷ 1 ∷ 23 ∷ 248 ∷ 0 ∷ 0 ∷ 22 ∷ 0 ∷ 0 ∷ 129 ∷ 0 ∷ 4 ∷ 15 ∷ 0 ∷ 1 ∷ 11 ∷ 249 ∷ 0 ∷ 0 ∷ 0 ∷ 0 ∷ 1 ∷ 23 ∷ 248 ∷ 0 ∷ 0 ∷ 23 ∷ 0 ∷ 0 ∷ 245 ∷ 0 ∷ 4 ∷ 13 ∷ 0 ∷ 4 ∷ 5 ∷ 21 ∷ 15 ∷ 22 ∷ 57 ∷ 0 ∷ 0 ∷ 0 ∷ 0 ∷ 2 ∷ 7 ∷ 13 ∷ 254 ∷ 0 ∷ 0 ∷ 0 ∷ 0 ∷ 1 ∷ 13 ∷ 56 ∷ 0 ∷ 0 ∷ 0 ∷ 0 ∷ 0 ∷ []
 
-pub is-listed : answer text 10 scratchWords scratchWords scratchWords ≡ listed writtenWords 24
+pub is-listed : answer text 10 funcWords workWords 16384 ≡ listed writtenWords 24
 unfolding answer text writtenWords
 is-listed = refl
 

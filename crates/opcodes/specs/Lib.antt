@@ -1,1 +1,2 @@
+-- The opcodes that document 01's table fixes.
 pub mod Table

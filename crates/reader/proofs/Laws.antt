@@ -7,24 +7,24 @@ use native.Mathlib.Omega.{arith}
 use lib.Dec.{leb}
 use lib.ListN.{length, replicate, length-replicate}
 use borrow.Author.Tests.{le-leb, lt-leb, leb-true}
-use Rattle.lifting.specs.Limits.{scratchWords}
-use Rattle.ctrls.specs.declared.CtrlsRead.{CtrlsRead}
-use Rattle.texts.specs.Whole.{TextIs}
-use Rattle.checks.specs.declared.Parsed.{Parsed}
+use Rattle.lifting.specs.Limits.{funcWords, workWords}
+use Rattle.read_ctrls.specs.declared.CtrlsRead.{CtrlsRead}
+use Rattle.read_text.specs.Whole.{TextIs}
+use Rattle.check_text.specs.declared.Parsed.{Parsed}
 use Rattle.reader.specs.Parse.{enoughTest, keptAfter}
 
 -- the two tests of lengths
-pub enough-no : {n : ℕ} (m : ℕ) → n < scratchWords → false ≡ enoughTest n m
-enough-no {n} m h = sym (ap (λ (b : Bool). b && leb scratchWords m) (lt-leb scratchWords n h))
+pub enough-no : {n : ℕ} (m : ℕ) → n < funcWords → false ≡ enoughTest n m
+enough-no {n} m h = sym (ap (λ (b : Bool). b && leb workWords m) (lt-leb funcWords n h))
 
-pub enough-half : (n m : ℕ) → scratchWords ≤ n → leb scratchWords m ≡ enoughTest n m
-enough-half n m h = sym (ap (λ (b : Bool). b && leb scratchWords m) (le-leb scratchWords n h))
+pub enough-half : (n m : ℕ) → funcWords ≤ n → leb workWords m ≡ enoughTest n m
+enough-half n m h = sym (ap (λ (b : Bool). b && leb workWords m) (le-leb funcWords n h))
 
-pub enough-both : (n m : ℕ) → enoughTest n m ≡ true → (scratchWords ≤ n) × (scratchWords ≤ m)
-enough-both n m e = by-test (leb scratchWords n) (leb scratchWords m) refl refl e
+pub enough-both : (n m : ℕ) → enoughTest n m ≡ true → (funcWords ≤ n) × (workWords ≤ m)
+enough-both n m e = by-test (leb funcWords n) (leb workWords m) refl refl e
   where
-    by-test : (a b : Bool) → leb scratchWords n ≡ a → leb scratchWords m ≡ b → (a && b) ≡ true → (scratchWords ≤ n) × (scratchWords ≤ m)
-    by-test true true p q r = (leb-true scratchWords n p, leb-true scratchWords m q)
+    by-test : (a b : Bool) → leb funcWords n ≡ a → leb workWords m ≡ b → (a && b) ≡ true → (funcWords ≤ n) × (workWords ≤ m)
+    by-test true true p q r = (leb-true funcWords n p, leb-true workWords m q)
     by-test true false p q r = absurd (let z : _≡_ {A = ℕ} 0 1 = cc in omega arith)
     by-test false b p q r = absurd (let z : _≡_ {A = ℕ} 0 1 = cc in omega arith)
 

@@ -12,8 +12,10 @@ use native.Mathlib.Omega.{arith}
 use lib.Dec.{leb, eqb}
 use lib.ListN.{length, getD, replicate, length-replicate}
 use borrow.Author.Tests.{le-leb, lt-leb, leb-true}
-use Rattle.lifting.specs.Lists.{every, gather}
-use Rattle.lifting.specs.Limits.{maxBytes, maxRegions, scratchWords, withinLimits}
+use Rattle.refusals.specs.declared.Refusal.the-variants.{Forms, Long, Scratch}
+use Rattle.refusals.specs.Numbers.{refusalNumber}
+use Rattle.laws.specs.Lists.{every, gather}
+use Rattle.lifting.specs.Limits.{maxBytes, funcWords, workWords, withinLimits}
 use Rattle.lifting.specs.Ast.{Func}
 use Rattle.lifting.specs.Parts.{ctrlInsts}
 use Rattle.lifting.specs.Grammar.{read}
@@ -21,29 +23,27 @@ use Rattle.lifting.specs.Counts.{edgesFit}
 use Rattle.lifting.specs.Answer as answer
 use Rattle.lifting.specs.Answer.{parsed, denied, checked, formed, parse, zerosUnless8}
 use Rattle.lifting.specs.Control.{controlFits, targetsDiffer}
-use Rattle.references.specs.Test.{opcodeFits, limitsTest, referencesTest}
-use Rattle.tree.specs.Test.{treeTest}
-use Rattle.counts.specs.Test.{countsTest}
+use Rattle.check_references.specs.Test.{opcodeFits, limitsTest, referencesTest}
+use Rattle.check_tree.specs.Test.{treeTest}
+use Rattle.check_counts.specs.Test.{countsTest}
 use Rattle.func.specs.Decode.{funcOf}
+use Rattle.work.specs.Layout.{workNeed}
 use Rattle.func.specs.Whole.{Clear, clear-zeros}
-use Rattle.func.specs.Keep.{keepFunc}
-use Rattle.ctrls.specs.Same.{opcodes-judged, edges-judged}
-use Rattle.texts.specs.Whole.{Text}
-use Rattle.checks.specs.declared.Refusal.{Refusal}
-use Rattle.checks.specs.declared.Refusal.the-variants as refusal
-use Rattle.checks.specs.declared.Parsed.{Parsed}
-use Rattle.checks.specs.declared.Parsed.the-variants.{Function, Refused}
-use Rattle.checks.specs.Test.{refusalNumber, judge, fewTest, checksTest, ChecksSafe}
-use Rattle.checks.specs.Same.{verdict, checks-safe, checks-same, passes, Stands, back}
-use Rattle.reader.specs.Parse.{answerOf, funcAfter, workAfter, enoughTest, keptAfter, Holds, Judges}
+use Rattle.read_ctrls.specs.Same.{opcodes-judged, edges-judged}
+use Rattle.read_text.specs.Whole.{Text}
+use Rattle.check_text.specs.declared.Parsed.{Parsed}
+use Rattle.check_text.specs.declared.Parsed.the-variants.{Function, Refused}
+use Rattle.check_text.specs.Test.{judge, fewTest, checksTest, ChecksSafe}
+use Rattle.check_text.specs.Same.{verdict, checks-safe, checks-same, passes, Stands, back}
+use Rattle.reader.specs.Parse.{answerOf, funcAfter, workAfter, enoughTest, keptAfter, Judges}
 
 -- `parse` by its first two tests
 abbrev byLength : List ℕ → Bool → answer.Parsed
-byLength text false = denied 1
+byLength text false = denied (refusalNumber Long)
 byLength text true = formed (read text)
 
 abbrev byScratch : List ℕ → Bool → answer.Parsed
-byScratch text false = denied 8
+byScratch text false = denied (refusalNumber Scratch)
 byScratch text true = byLength text (leb (length text) maxBytes)
 
 parse-is : (text : List ℕ) (n m : ℕ) → parse text n m ≡ byScratch text (enoughTest n m)
@@ -58,15 +58,15 @@ parse-is text n m = by-scratch (enoughTest n m) refl
     by-scratch true e = by-length e (leb (length text) maxBytes) refl
 
 -- 8
-pub short : (text : List ℕ) (n m : ℕ) → enoughTest n m ≡ false → parse text n m ≡ denied 8
+pub short : (text : List ℕ) (n m : ℕ) → enoughTest n m ≡ false → parse text n m ≡ denied (refusalNumber Scratch)
 short text n m e = parse-is text n m ∙ ap (byScratch text) e
 
-module _ (text : List ℕ) (n m : ℕ) (a : scratchWords ≤ n) (b : scratchWords ≤ m) where
+module _ (text : List ℕ) (n m : ℕ) (a : funcWords ≤ n) (b : workWords ≤ m) where
   later : parse text n m ≡ byLength text (leb (length text) maxBytes)
-  later = parse-is text n m ∙ (λ i. byScratch text (le-leb scratchWords n a i && le-leb scratchWords m b i))
+  later = parse-is text n m ∙ (λ i. byScratch text (le-leb funcWords n a i && le-leb workWords m b i))
 
   -- 1
-  pub long : maxBytes < length text → parse text n m ≡ denied 1
+  pub long : maxBytes < length text → parse text n m ≡ denied (refusalNumber Long)
   long h = later ∙ ap (byLength text) (lt-leb (length text) maxBytes h)
 
   -- 2
@@ -74,7 +74,7 @@ module _ (text : List ℕ) (n m : ℕ) (a : scratchWords ≤ n) (b : scratchWord
     formed-is : parse text n m ≡ formed (read text)
     formed-is = later ∙ ap (byLength text) (le-leb (length text) maxBytes h)
 
-    pub malformed : read text ≡ none → parse text n m ≡ denied 2
+    pub malformed : read text ≡ none → parse text n m ≡ denied (refusalNumber Forms)
     unfolding formed
     malformed e = formed-is ∙ ap formed e
 
@@ -91,7 +91,7 @@ zero-marks (suc n) (suc i) = zero-marks n i
 -- the refusals of a text that is of the forms are not 8
 abbrev eight : Parsed → Bool
 eight Function = false
-eight (Refused x) = eqb (refusalNumber x) 8
+eight (Refused x) = eqb (refusalNumber x) (refusalNumber Scratch)
 
 not-eight : (u v w x y z : Bool) → eight (judge u v w x y z) ≡ false
 not-eight false v w x y z = refl
@@ -102,10 +102,10 @@ not-eight true true true true false z = refl
 not-eight true true true true true false = refl
 not-eight true true true true true true = refl
 
-module _ (text : List ℕ) (n m : ℕ) (a : scratchWords ≤ n) (b : scratchWords ≤ m) (h : length text ≤ maxBytes) {opcodes edges : Bool} {v : List ℕ}
+module _ (text : List ℕ) (n m : ℕ) (a : funcWords ≤ n) (b : workWords ≤ m) (h : length text ≤ maxBytes) {opcodes edges : Bool} {v : List ℕ}
     (t : Text opcodes edges text (replicate n 0) (replicate m 0) v) where
   zeros : Clear (replicate n 0)
-  zeros = clear-zeros n a
+  zeros = clear-zeros n (omega arith)
 
   opcodes-fit : opcodes ≡ every (λ i. opcodeFits (i .opcode)) (gather (λ c. ctrlInsts (c .1 .kind)) (t .F .ctrls))
   opcodes-fit = sym (t .opcodes-are) ∙ opcodes-judged (t .F .ctrls) _ (replicate m 0)
@@ -135,10 +135,10 @@ module _ (text f w : List ℕ) where
   pub judged-at : {n m : ℕ} (r : Parsed) (v : List ℕ) → n ≡ length f → m ≡ length w → Judges r text n m v → Judges r text (length f) (length w) v
   judged-at {m = m} r v e g j = subst (λ (k : ℕ). Judges r text (length f) k v) g (subst (λ (k : ℕ). Judges r text k m v) e j)
 
-  pub answered : scratchWords ≤ length f → (r : Parsed) (v u x : List ℕ) → Judges r text (length f) (length w) v → length v ≡ length f → u ≡ keptAfter r v → x ≡ replicate (length w) 0
+  pub answered : funcWords ≤ length f → (r : Parsed) (v u x : List ℕ) → Judges r text (length f) (length w) v → length v ≡ length f → u ≡ keptAfter r v → x ≡ replicate (length w) 0
       → (answerOf r u ≡ parse text (length f) (length w)) × ((u ≡ funcAfter (parse text (length f) (length w)) f) × (x ≡ workAfter (parse text (length f) (length w)) w))
   answered size Function v u x j l q z =
-      let s = back (j .F) (clear-zeros (length f) size) (j .passed) in (
+      let s = back (j .F) (clear-zeros (length f) (omega arith)) (j .passed) in (
         ap parsed (ap funcOf (q ∙ j .func) ∙ s .func) ∙ sym (j .is),
         (q ∙ j .func ∙ sym (ap (λ (p : answer.Parsed). funcAfter p f) (j .is)), z ∙ sym (ap (λ (p : answer.Parsed). workAfter p w) (j .is))),
       )
@@ -151,14 +151,14 @@ module _ (text f w : List ℕ) where
   )
 
   pub too-short : enoughTest (length f) (length w) ≡ false
-      → (denied 8 ≡ parse text (length f) (length w)) × ((f ≡ funcAfter (parse text (length f) (length w)) f) × (w ≡ workAfter (parse text (length f) (length w)) w))
+      → (denied (refusalNumber Scratch) ≡ parse text (length f) (length w)) × ((f ≡ funcAfter (parse text (length f) (length w)) f) × (w ≡ workAfter (parse text (length f) (length w)) w))
   too-short e =
       let k = sym (short text (length f) (length w) e) in
       (k, (ap (λ (p : answer.Parsed). funcAfter p f) k, ap (λ (p : answer.Parsed). workAfter p w) k))
 
 -- a text that is parsed is of the forms and passes, and the slices were long enough
-parsed-checked : (text : List ℕ) (n m : ℕ) (F : Func) → parse text n m ≡ parsed F → (scratchWords ≤ n) × (scratchWords ≤ m) × (checked F ≡ parsed F)
-parsed-checked text n m F e = by-scratch (leb scratchWords n) (leb scratchWords m) refl refl (sym (parse-is text n m) ∙ e)
+parsed-checked : (text : List ℕ) (n m : ℕ) (F : Func) → parse text n m ≡ parsed F → (funcWords ≤ n) × (workWords ≤ m) × (checked F ≡ parsed F)
+parsed-checked text n m F e = by-scratch (leb funcWords n) (leb workWords m) refl refl (sym (parse-is text n m) ∙ e)
   where
     by-read : (o : Option Func) → formed o ≡ parsed F → checked F ≡ parsed F
     by-read none q = absurd (unfold formed in let z : _≡_ {A = ℕ} 0 1 = cc in omega arith)
@@ -170,9 +170,9 @@ parsed-checked text n m F e = by-scratch (leb scratchWords n) (leb scratchWords 
     by-length false q = absurd (let z : _≡_ {A = ℕ} 0 1 = cc in omega arith)
     by-length true q = by-read (read text) q
 
-    by-scratch : (a b : Bool) → leb scratchWords n ≡ a → leb scratchWords m ≡ b → byScratch text (a && b) ≡ parsed F
-        → (scratchWords ≤ n) × (scratchWords ≤ m) × (checked F ≡ parsed F)
-    by-scratch true true h k q = (leb-true scratchWords n h, leb-true scratchWords m k, by-length (leb (length text) maxBytes) q)
+    by-scratch : (a b : Bool) → leb funcWords n ≡ a → leb workWords m ≡ b → byScratch text (a && b) ≡ parsed F
+        → (funcWords ≤ n) × (workWords ≤ m) × (checked F ≡ parsed F)
+    by-scratch true true h k q = (leb-true funcWords n h, leb-true workWords m k, by-length (leb (length text) maxBytes) q)
     by-scratch true false h k q = absurd (let z : _≡_ {A = ℕ} 0 1 = cc in omega arith)
     by-scratch false b h k q = absurd (let z : _≡_ {A = ℕ} 0 1 = cc in omega arith)
 
@@ -180,11 +180,11 @@ parsed-checked text n m F e = by-scratch (leb scratchWords n) (leb scratchWords 
 pub accepted : (text f v : List ℕ) (m : ℕ) → answerOf Function v ≡ parse text (length f) m → v ≡ funcAfter (parse text (length f) m) f → Stands (funcOf v) v
 accepted text f v m e q =
     let k = parsed-checked text (length f) m (funcOf v) (sym e) in
-    subst (λ (w : List ℕ). Stands (funcOf v) w) (sym (q ∙ ap (λ (p : answer.Parsed). funcAfter p f) (sym e))) (back (funcOf v) (clear-zeros (length f) (k .0)) (k .2))
+    subst (λ (w : List ℕ). Stands (funcOf v) w) (sym (q ∙ ap (λ (p : answer.Parsed). funcAfter p f) (sym e))) (back (funcOf v) (clear-zeros (length f) (omega (arith, k .0))) (k .2))
 
 -- and then the work slice is clear, and long enough
 pub cleared : (text f v w u : List ℕ) → answerOf Function v ≡ parse text (length f) (length w) → u ≡ workAfter (parse text (length f) (length w)) w
-    → (scratchWords ≤ length u) × (u ≡ replicate (length u) 0)
+    → (workNeed ≤ length u) × (u ≡ replicate (length u) 0)
 cleared text f v w u e q =
     let k = parsed-checked text (length f) (length w) (funcOf v) (sym e) in
     let z : u ≡ replicate (length w) 0 = q ∙ ap (λ (p : answer.Parsed). workAfter p w) (sym e) in

@@ -1,14 +1,17 @@
 // From the lent text to the tables in the function slice, or a refusal: the one entry of the reader. It asks nothing of its caller.
-use checks::Parsed;
-use checks::Refusal;
-use checks::checks;
-use ctrls::CtrlsRead;
-use func::clear;
-use texts::read_text;
+use check_text::Parsed;
+use check_text::checks;
+use func_pools::clear;
+use read_ctrls::CtrlsRead;
+use read_text::read_text;
+use refusals::Refusal;
+use refusals::limits::FUNC_WORDS;
+use refusals::limits::MAX_BYTES;
+use refusals::limits::WORK_WORDS;
 ghost use mathlib.Core.Path.{_≡_};
 ghost use Prim.Native.Nat.{_≤_};
 ghost use lib.ListN.{length, replicate};
-ghost use Rattle.lifting.specs.Limits.{scratchWords};
+ghost use Rattle.lifting.specs.Limits.{funcWords, workWords};
 ghost use Rattle.lifting.specs.Answer.{parse};
 ghost use Rattle.reader.specs.Parse.{Judges, answerOf, funcAfter, workAfter, keptAfter, enoughTest};
 
@@ -16,21 +19,21 @@ ghost use Rattle.reader.specs.Parse.{Judges, answerOf, funcAfter, workAf
 fn enough(func: &[u32], work: &[u32]) -> bool
     ensures { λ r. ⌜ r ≡ enoughTest (length (now (func .entry))) (length (now (work .entry))) ⌝ }
 {
-    if func.len() < 16384 {
+    if func.len() < FUNC_WORDS {
         return false;
     }
-    16384 <= work.len()
+    WORK_WORDS <= work.len()
 }
 
 // The text, judged over cleared slices: what stands in the function slice then goes by the answer.
 fn judge(text: &[u8], func: &mut [u32], work: &mut [u32]) -> Parsed
-    requires { ⌜ (scratchWords ≤ length (now func)) × (scratchWords ≤ length (now work)) ⌝ }
+    requires { ⌜ (funcWords ≤ length (now func)) × (workWords ≤ length (now work)) ⌝ }
     requires { ⌜ (now func ≡ replicate (length (now func)) 0) × (now work ≡ replicate (length (now work)) 0) ⌝ }
     ensures { λ r. ⌜ Judges r (now (text .entry)) (length (now (func .entry))) (length (now (work .entry))) (now (func .exit)) ⌝ }
     ensures { λ _. ⌜ length (now (func .exit)) ≡ length (now (func .entry)) ⌝ }
     ensures { λ _. ⌜ length (now (work .exit)) ≡ length (now (work .entry)) ⌝ }
 {
-    if 32768 < text.len() {
+    if MAX_BYTES < text.len() {
         return Parsed::Refused(Refusal::Long);
     }
     let CtrlsRead::Read(opcodes, edges) = read_text(func, work, text) else {

@@ -3,21 +3,20 @@
 --     readTo, readOf, readLeaves       of a text that is only read
 --     version                          of the library
 --     numbers-list, numbers-refusal    by what the entry tells
-use mathlib.Core.Path.{_≡_, refl, sym, ap, _∙_}
+use mathlib.Core.Path.{_≡_, refl, ap, _∙_}
 use mathlib.Core.Bool.{Bool, true, false}
 use mathlib.Core.List.{List}
 use Prim.Native.Nat.{ℕ, _+_, _*_}
 use native.Mathlib.Omega.{arith}
 use lib.Dec.{eqb}
 use lib.ListN.{length, replicate}
+use borrow.Author.Tests.{eqb-true}
+use Rattle.refusals.specs.declared.Refusal.{Refusal}
+use Rattle.refusals.specs.declared.Refusal.the-variants.{Output, Scratch}
+use Rattle.refusals.specs.Numbers.{refusalNumber}
 use Rattle.lifting.specs.Answer.{Answer, Parsed, denied, listed, parse, parsed, refused, zerosUnless8}
-use Rattle.checks.specs.declared.Refusal.{Refusal}
-use Rattle.checks.specs.declared.Refusal.the-variants.{Long, Forms, Limits, References, Tree, Counts, Control, Scratch, Targets}
-use Rattle.checks.specs.Test.{refusalNumber}
-use Rattle.emitter.specs.declared.Cause.{Cause}
-use Rattle.emitter.specs.declared.Cause.the-variants.{Text, Ids, Values, Output}
 use Rattle.emitter.specs.declared.Lifted.the-variants.{Refused}
-use Rattle.emitter.specs.Lift.{Wants, causeNumber, gives, outcome, refuses}
+use Rattle.emitter.specs.Emit.{Wants, gives, outcome, refuses}
 
 -- 0 for a list, else the refusal's number
 abbrev pub refusalOf : Answer → ℕ
@@ -32,19 +31,16 @@ wantedIf11 false wanted old = old
 -- the word count
 abbrev pub wordsOr : Answer → ℕ → ℕ → ℕ
 wordsOr (listed ws next) wanted old = length ws
-wordsOr (refused n) wanted old = wantedIf11 (eqb n 11) wanted old
+wordsOr (refused n) wanted old = wantedIf11 (eqb n (refusalNumber Output)) wanted old
 
 -- the next free id; a refusal leaves what was there
 abbrev pub nextOr : Answer → ℕ → ℕ
 nextOr (listed ws next) old = next
 nextOr (refused n) old = old
 
--- the same of a refusal's cause
-abbrev pub causeWords : Cause → ℕ → ℕ
-causeWords (Text r) old = old
-causeWords Ids old = old
-causeWords Values old = old
-causeWords (Output n) old = n
+-- the same of a refusal and what it tells
+abbrev pub refusalWords : Refusal → ℕ → ℕ → ℕ
+refusalWords r told old = wantedIf11 (eqb (refusalNumber r) (refusalNumber Output)) told old
 
 -- ---- of a text that is only read
 
@@ -60,7 +56,7 @@ readOf (denied n) = n
 -- Both scratch slices end as zeros, except after 8, when they keep their words.
 abbrev pub readLeaves : Parsed → List ℕ → List ℕ
 readLeaves (parsed F) scratch = replicate (length scratch) 0
-readLeaves (denied n) scratch = zerosUnless8 (eqb n 8) scratch
+readLeaves (denied n) scratch = zerosUnless8 (eqb n (refusalNumber Scratch)) scratch
 
 -- ---- of the library
 
@@ -79,27 +75,17 @@ pub numbers-list : (a : Answer) (n k wanted words next : ℕ) → gives n k ≡ 
 numbers-list (listed ws j) n k wanted words next e = record { refusal = refl; count = cc; free = cc }
 numbers-list (refused j) n k wanted words next e = absurd (let z : _≡_ {A = ℕ} 0 1 = cc in omega arith)
 
-not-eleven : (r : Refusal) → eqb (refusalNumber r) 11 ≡ false
-not-eleven Long = refl
-not-eleven Forms = refl
-not-eleven Limits = refl
-not-eleven References = refl
-not-eleven Tree = refl
-not-eleven Counts = refl
-not-eleven Control = refl
-not-eleven Scratch = refl
-not-eleven Targets = refl
-
 -- only refusal 11 has a count
-cause-words : (c : Cause) (wanted old : ℕ) → Wants wanted (Refused c) → causeWords c old ≡ wantedIf11 (eqb (causeNumber c) 11) wanted old
-cause-words (Text r) wanted old h = sym (ap (λ (b : Bool). wantedIf11 b wanted old) (not-eleven r))
-cause-words Ids wanted old h = refl
-cause-words Values wanted old h = refl
-cause-words (Output n) wanted old h = h
+refusal-words : (r : Refusal) (told wanted old : ℕ) → Wants wanted (Refused r told) → refusalWords r told old ≡ refusalWords r wanted old
+refusal-words r told wanted old h = go (eqb (refusalNumber r) (refusalNumber Output)) refl
+  where
+    go : (b : Bool) → eqb (refusalNumber r) (refusalNumber Output) ≡ b → wantedIf11 b told old ≡ wantedIf11 b wanted old
+    go true e = h (eqb-true (refusalNumber r) (refusalNumber Output) e)
+    go false e = refl
 
-pub numbers-refusal : (a : Answer) (c : Cause) (wanted words next : ℕ) → refuses (causeNumber c) ≡ outcome a → Wants wanted (Refused c)
-    → Crosses a (causeNumber c) wanted words next (causeWords c words) next
-numbers-refusal (listed ws j) c wanted words next e h = absurd (let z : _≡_ {A = ℕ} 0 1 = cc in omega arith)
-numbers-refusal (refused j) c wanted words next e h =
-    let n : causeNumber c ≡ j = cc in
-    record { refusal = n; count = cause-words c wanted words h ∙ ap (λ (i : ℕ). wantedIf11 (eqb i 11) wanted words) n; free = refl }
+pub numbers-refusal : (a : Answer) (r : Refusal) (told wanted words next : ℕ) → refuses (refusalNumber r) ≡ outcome a → Wants wanted (Refused r told)
+    → Crosses a (refusalNumber r) wanted words next (refusalWords r told words) next
+numbers-refusal (listed ws j) r told wanted words next e h = absurd (let z : _≡_ {A = ℕ} 0 1 = cc in omega arith)
+numbers-refusal (refused j) r told wanted words next e h =
+    let n : refusalNumber r ≡ j = cc in
+    record { refusal = n; count = refusal-words r told wanted words h ∙ ap (λ (i : ℕ). wantedIf11 (eqb i (refusalNumber Output)) wanted words) n; free = refl }

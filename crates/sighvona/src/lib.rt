@@ -1,27 +1,24 @@
 // The static library: what C and Rust call. A slice crosses as a pointer and a count of elements. Nothing is asked of the caller but that the
 // slices it lends for writing do not overlap.
-use checks::Parsed;
-use checks::number;
-use emitter::Cause;
+use check_text::Parsed;
 use emitter::Lifted;
-use emitter::cause_number;
-use emitter::lift_function;
-use func::pools::clear;
+use func_pools::clear;
+use lifter::lift_function;
+use refusals::Refusal;
+use refusals::number;
 ghost use mathlib.Core.Path.{_≡_};
 ghost use Rattle.lifting.specs.Answer.{outAfter, scratchAfter};
-ghost use Rattle.emitter.specs.Lift.{answerTo, wantedTo};
-ghost use Rattle.sighvona.specs.Numbers.{causeWords, nextOr, readLeaves, readOf, readTo, refusalOf, version, wordsOr};
+ghost use Rattle.lifter.specs.Lift.{answerTo, wantedTo};
+ghost use Rattle.sighvona.specs.Numbers.{nextOr, readLeaves, readOf, readTo, refusalOf, refusalWords, version, wordsOr};
 
 // What `words` holds after a refusal: 11 tells how many words are wanted.
-fn words_told(c: Cause, old: usize) -> usize
-    ensures { λ n. ⌜ n ≡ causeWords c old ⌝ }
+fn words_told(r: Refusal, wanted: usize, old: usize) -> usize
+    ensures { λ n. ⌜ n ≡ refusalWords r wanted old ⌝ }
 {
-    match c {
-        Cause::Text(_) => old,
-        Cause::Ids => old,
-        Cause::Values => old,
-        Cause::Output(n) => n,
+    if number(r) == number(Refusal::Output) {
+        return wanted;
     }
+    old
 }
 
 // Lifts a text: 0, with the list in `out`, its count of words and the next free id; or the number of the refusal. Refusal 11 gives in `words` how many
@@ -50,9 +47,9 @@ pub extern "C" fn sighvona_lift(
             *next = k;
             0
         }
-        Lifted::Refused(c) => {
-            *words = words_told(c, *words);
-            cause_number(c)
+        Lifted::Refused(x, n) => {
+            *words = words_told(x, n, *words);
+            number(x)
         }
     }
 }

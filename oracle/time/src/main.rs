@@ -1,7 +1,8 @@
-//! `time CASE..`: nanoseconds that a call takes, for each case, a file with an input of `lift`:
+//! `time CASE..`: a line of numbers for each case, a file with an input of `lift`: the bytes of its
+//! text, its blocks, instructions and words, and the nanoseconds that a call takes, in this order:
 //! of the library's reader, when it refuses at the first byte and so only clears its slices; of
-//! the reader; of the whole call, from text to words; of the Rust's `from_func_decl`; and of the
-//! Rust's ids, `from_func_decl` and `to_inst_and_attrs`, which make its list; and of these with the
+//! the reader; of the whole call, from text to words; of the Rust's `from_func_decl`; of the Rust's
+//! ids, `from_func_decl` and `to_inst_and_attrs`, which make its list; and of these with the
 //! reading of the text by the oracle.
 //!
 //! The first three are functions of the static library, on the case's text and slices that stay
@@ -11,13 +12,13 @@
 //! `time --only NAME CASE` calls one of them for ten seconds, for a profiler to look at.
 
 use refer::read::Cursor;
-use sighvona::{SCRATCH_WORDS, lift_in, read_in};
+use sighvona::{MAX_WORDS, SCRATCH_WORDS, lift_in, read_in};
 use spirt::text::Ready;
 use std::hint::black_box;
 use std::time::{Duration, Instant};
 
-const ROUNDS: usize = 30;
-const ROUND: Duration = Duration::from_millis(50);
+const ROUNDS: usize = 15;
+const ROUND: Duration = Duration::from_millis(20);
 const ALONE: Duration = Duration::from_secs(10);
 
 /// What is timed: its name, and a call.
@@ -34,9 +35,14 @@ fn round(call: &mut dyn FnMut(), lasts: Duration) -> f64 {
     begun.elapsed().as_secs_f64() * 1e9 / f64::from(calls)
 }
 
+/// The function slice, the work slice and an output slice that is never too short.
+fn slices() -> [Vec<u32>; 3] {
+    [SCRATCH_WORDS, SCRATCH_WORDS, MAX_WORDS].map(|words| vec![0; words])
+}
+
 /// Three slices for as long as the function is called.
 fn lent<R>(called: impl Fn([&mut [u32]; 3]) -> R) -> impl FnMut() {
-    let mut slices = [const { [0; SCRATCH_WORDS] }; 3].map(Box::new);
+    let mut slices = slices();
     move || {
         black_box(called(slices.each_mut().map(|slice| &mut slice[..])));
     }
@@ -49,13 +55,11 @@ fn time(path: &str, only: Option<&str>) {
     let text = cursor.0;
     let ready = Ready::new(&case).expect("the Rust has such a function");
     let named = ready.named();
-    let mut slices = [const { [0; SCRATCH_WORDS] }; 3].map(Box::new);
+    let mut slices = slices();
     let [func, work, out] = slices.each_mut();
     let lifted = lift_in(text, first, &mut func[..], &mut work[..], &mut out[..]);
     let words = lifted.unwrap_or_else(|refusal| panic!("{path}: {refusal}")).words;
     let (blocks, insts) = (ready.blocks(), ready.lift(&named));
-    println!("{path}: {} bytes, {blocks} blocks, {insts} instructions, {words} words", text.len());
-
     let from_text = |case: &[u8]| {
         let ready = Ready::new(case).expect("the Rust has such a function");
         ready.lift(&ready.named())
@@ -70,7 +74,7 @@ fn time(path: &str, only: Option<&str>) {
     ];
     if let Some(only) = only {
         let (_, call) = timed.iter_mut().find(|(name, _)| *name == only).expect("a known name");
-        println!("  {only:18}{:9.0} ns", round(call, ALONE));
+        println!("{only}: {:.0} ns", round(call, ALONE));
         return;
     }
     let mut least = [f64::INFINITY; 6];
@@ -79,11 +83,9 @@ fn time(path: &str, only: Option<&str>) {
             *least = least.min(round(call, ROUND));
         }
     }
-    let print = |name: &str, took: f64| {
-        println!("  {name:18}{took:9.0} ns{:8.2} ns a byte", took / text.len() as f64);
-    };
-    timed.iter().zip(least).for_each(|((name, _), took)| print(name, took));
-    print("lift less read", least[2] - least[1]);
+    print!("{} {blocks} {insts} {words}", text.len());
+    least.iter().for_each(|took| print!(" {took:.0}"));
+    println!();
 }
 
 fn main() {

@@ -1,4 +1,5 @@
--- `blocks::blocks` meets its contract: what the passes leave, less what is cleared again. Assumes nothing.
+-- What is cleared again is the walk's own words alone, so that the tables of points, uses, blocks and ctrl lines still stand (`visited-still`)
+-- and every word of the slice is told (`block-words`).
 use mathlib.Core.Path.{_∙_}
 use Rattle.blocks.specs.Words.{visited-still, block-words, walkable-stands}
 use borrow.Author.Needs.{needs}

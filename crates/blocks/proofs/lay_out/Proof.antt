@@ -1,6 +1,6 @@
--- `blocks::lay_out` meets its contract: what the walk promises is what the passes ask. Assumes nothing.
+-- What the walk promises of its points is what the passes ask (`visited-walked`), and each pass writes its own tables alone (`lay-words`).
 use mathlib.Core.Path.{_∙_}
-use Rattle.term.specs.Visited.{visited-walked}
+use Rattle.terminators.specs.Visited.{visited-walked}
 use Rattle.blocks.specs.Words.{lay-words}
 use borrow.Author.Needs.{needs}
 use Rattle.blocks.proofs.lay_out.Statement.{statement}
@@ -15,7 +15,7 @@ count-uses-requires c κs =
 
 returns : tie.Need-returns
 returns c =
-    let g = c .before .before .glue .ensures in
+    let g = c .before .before .absorb .ensures in
     let u = c .before .before .before .before .before .before .count-uses .ensures in
     let e = c .before .before .before .before .before .before .before .before .before .before .walk .ensures in
     let k = g .1 .1 .0 in

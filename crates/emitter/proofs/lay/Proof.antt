@@ -1,16 +1,14 @@
+-- A function without regions has no points, and its work slice of zeros is the layout of none; of any other what the passes leave is the layout
+-- (`laid-blocks`), and outside their tables the zeros stand.
 use mathlib.Core.Path.{refl}
 use native.Mathlib.Omega.{arith}
 use borrow.Author.Needs.{needs}
 use Rattle.blocks.specs.Words.{zero-word}
-use Rattle.blocks.specs.Laid.{blank-after, blank-before, laid-blocks, laid-imported}
-use Rattle.ids.specs.Ids.{blank-blocks}
-use Rattle.emitter.proofs.Laws.{no-regions}
+use Rattle.blocks.specs.Laid.{blank-after, laid-blocks, laid-imported}
+use Rattle.emit_ids.specs.Ids.{blank-blocks}
+use Rattle.emit_list.specs.Laws.{no-regions}
 use Rattle.emitter.proofs.lay.Statement.{statement}
 use Rattle.emitter.proofs.lay.Tie as tie
-use Rattle.emitter.proofs.lay.Reads as reads
-use Rattle.emitter.proofs.lay.Lts as lts
-use Rattle.blocks.proofs.blocks.Reads as blocks-reads
-use Rattle.func.proofs.look.region_total.Reads as region-total-reads
 
 region-total-requires : tie.Need-region-total-requires
 region-total-requires c κs = search needs
@@ -19,7 +17,7 @@ returns : tie.Need-returns
 returns c =
     let p = c .before .before .before .before .pre in
     let z = zero-word (p .1 .1) in
-    (laid-imported (p .0 .tables) (p .1 .0) (no-regions _ (omega arith)), (record { word = λ x a b. z x }, (record { heads = λ x h. z x; edges = λ x a b. z x }, refl)))
+    (laid-imported (p .0 .tables) (p .1 .0) (no-regions _ (omega arith)), (record { word = λ x a b. z x }, (record { word = λ x a b. z x }, refl)))
 
 blocks-requires : tie.Need-blocks-requires
 blocks-requires c κs = search needs
@@ -33,7 +31,7 @@ returns-2 c =
       laid-blocks (e .0) (e .1 .0),
       (
         blank-blocks (e .0) (e .1 .0),
-        (record { heads = λ x h. blank-before (e .0) (e .1 .0) x (omega arith); edges = λ x a b. blank-after (e .0) (e .1 .0) x (omega arith) }, e .1 .1),
+        (record { word = λ x a b. blank-after (e .0) (e .1 .0) x (omega arith) }, e .1 .1),
       ),
     )
 

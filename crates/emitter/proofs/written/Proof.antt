@@ -1,24 +1,20 @@
 -- The list is counted by the same emitter that writes it: so the flag decides refusal 10, the place refusal 11 and what it tells, and the second pass writes the words.
-use mathlib.Core.Path.{_≡_, refl, sym, ap, _∙_}
-use mathlib.Core.Bool.{Bool, true, false}
-use mathlib.Core.List.{List}
-use Prim.Native.Nat.{ℕ, suc, _+_, _*_, _≤_, _<_}
+use mathlib.Core.Path.{refl, sym, _∙_}
+use Prim.Native.Nat.{_*_, _≤_, _<_}
 use native.Mathlib.Omega.{arith}
-use lib.Dec.{leb}
-use lib.ListN.{getD, length, replicate}
+use lib.ListN.{length}
 use borrow.Author.Needs.{needs}
 use borrow.Author.Tests.{le-leb, leb-true, lt-leb}
+use Rattle.refusals.specs.declared.Refusal.the-variants.{Values}
 use Rattle.lifting.specs.Instructions.{listOf}
 use Rattle.lifting.specs.Words.{words}
 use Rattle.func.specs.Decode.{funcOf}
-use Rattle.sizes.specs.Bound.{text-bound}
+use Rattle.lifting_sizes.specs.Bound.{text-bound}
+use Rattle.emitter.specs.Emit.{wants-not}
 use Rattle.emitter.specs.Listed.{count-is, list-stands, room-is}
 use Rattle.emitter.proofs.Giving.{gives-list, gives-room, gives-values, missing-any, missing-none}
 use Rattle.emitter.proofs.written.Statement.{statement}
 use Rattle.emitter.proofs.written.Tie as tie
-use Rattle.emitter.proofs.written.Reads as reads
-use Rattle.emitter.proofs.written.Lts as lts
-use Rattle.emitter.proofs.list.put_list.Reads as put-list-reads
 
 slice-aggregate-put-list : tie.Need-slice-aggregate-put-list
 slice-aggregate-put-list c = search needs
@@ -28,26 +24,26 @@ put-list-requires c κs = search needs
 
 returns : tie.Need-returns
 returns c =
-    let a = c .before .before .before .before .before .before .before .args in
-    let p = c .before .before .before .before .before .before .before .pre in
+    let a = c .before .before .before .before .before .before .before .before .args in
+    let p = c .before .before .before .before .before .before .before .before .pre in
     let F = funcOf (a .func .now) in
     let n = length (a .out .now) in
     let L = listOf F (a .first) in
     let ok = p .0 .ready .stands .passes in
-    let g : n * 4 < 9223372036854775808 = c .before .before .before .before .before .before .before .good .1 .1 .0 .1 in
-    (gives-values F (a .first) n (a .out .now) (missing-any F (a .first) ok (p .1 .0) (c .before .before .put-list .ensures) (c .if1 .taken)), tt)
+    let g : n * 4 < 9223372036854775808 = c .before .before .before .before .before .before .before .before .good .1 .1 .0 .1 in
+    (gives-values F (a .first) n (a .out .now) (missing-any F (a .first) ok (p .1 .0) (c .before .before .before .put-list .ensures) (c .if1 .taken)), wants-not Values 0 _ refl)
 
 returns-2 : tie.Need-returns-2
 returns-2 c =
-    let a = c .before .before .before .before .before .before .before .before .before .args in
-    let p = c .before .before .before .before .before .before .before .before .before .pre in
+    let a = c .before .before .before .before .before .before .before .before .before .before .args in
+    let p = c .before .before .before .before .before .before .before .before .before .before .pre in
     let F = funcOf (a .func .now) in
     let n = length (a .out .now) in
     let L = listOf F (a .first) in
     let ok = p .0 .ready .stands .passes in
-    let g : n * 4 < 9223372036854775808 = c .before .before .before .before .before .before .before .before .before .good .1 .1 .0 .1 in
-    let e = c .before .before .before .before .put-list .ensures in
-    (gives-room F (a .first) n (a .out .now) (missing-none F (a .first) ok (p .1 .0) e (c .before .before .if1 .left)) (sym (room-is L e n (omega arith)) ∙ lt-leb _ n (c .if2 .taken)) _, count-is L e (omega (arith, text-bound F (a .first) (ok .limits) (ok .references) (ok .tree) (ok .counts) (ok .control))))
+    let g : n * 4 < 9223372036854775808 = c .before .before .before .before .before .before .before .before .before .before .good .1 .1 .0 .1 in
+    let e = c .before .before .before .before .before .put-list .ensures in
+    (gives-room F (a .first) n (a .out .now) (missing-none F (a .first) ok (p .1 .0) e (c .before .before .if1 .left)) (sym (room-is L e n (omega arith)) ∙ lt-leb _ n (c .if2 .taken)) _, λ z. count-is L e (omega (arith, text-bound F (a .first) (ok .limits) (ok .references) (ok .tree) (ok .counts) (ok .control))))
 
 put-list-requires-2 : tie.Need-put-list-requires-2
 put-list-requires-2 c κs = search needs
@@ -57,15 +53,15 @@ same-length c = search needs
 
 returns-3 : tie.Need-returns-3
 returns-3 c =
-    let a = c .before .before .before .before .before .before .before .before .before .before .before .before .before .args in
-    let p = c .before .before .before .before .before .before .before .before .before .before .before .before .before .pre in
+    let a = c .before .before .before .before .before .before .before .before .before .before .before .before .before .before .args in
+    let p = c .before .before .before .before .before .before .before .before .before .before .before .before .before .before .pre in
     let F = funcOf (a .func .now) in
     let n = length (a .out .now) in
     let L = listOf F (a .first) in
     let ok = p .0 .ready .stands .passes in
-    let g : n * 4 < 9223372036854775808 = c .before .before .before .before .before .before .before .before .before .before .before .before .before .good .1 .1 .0 .1 in
-    let e = c .before .before .before .before .before .before .before .before .put-list .ensures in
-    let l : c .before .before .before .before .before .before .before .before .put-list .result .at ≤ n = omega arith in
+    let g : n * 4 < 9223372036854775808 = c .before .before .before .before .before .before .before .before .before .before .before .before .before .before .good .1 .1 .0 .1 in
+    let e = c .before .before .before .before .before .before .before .before .before .put-list .ensures in
+    let l : c .before .before .before .before .before .before .before .before .before .put-list .result .at ≤ n = omega arith in
     let f = sym (room-is L e n (omega arith)) ∙ le-leb _ n l in
     let w : length (words L) ≤ n = leb-true (length (words L)) n f in
     (gives-list F (a .first) n (a .out .now) (missing-none F (a .first) ok (p .1 .0) e (c .before .before .before .before .before .before .if1 .left)) f (count-is L e (omega arith)) (p .1 .1) (list-stands L (c .before .before .put-list2 .ensures) w), tt)

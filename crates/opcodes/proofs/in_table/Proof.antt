@@ -1,40 +1,13 @@
--- `opcodes::in_table` meets its contract: the number is none of the opcodes passed. Assumes nothing.
-use mathlib.Core.Path.{_≡_, refl, sym, _∙_}
-use Prim.Native.Nat.{_-_}
-use native.Mathlib.Omega.{arith}
-use lib.ListN.{drop}
+-- The loop's invariant: the number is in the table if it is among the opcodes from the i-th on. The measure is how many are left.
+use mathlib.Core.Path.{sym}
 use borrow.Author.Needs.{needs}
-use Rattle.opcodes.specs.Table.{table, among}
-use Rattle.opcodes.proofs.Laws.{among-stop, among-next, among-end}
+use borrow.Author.Tests.{ltb-true}
+use Rattle.opcodes.proofs.Laws.{in-gap}
 use Rattle.opcodes.proofs.in_table.Statement.{statement}
 use Rattle.opcodes.proofs.in_table.Tie as tie
 
-abbrev Inv-loop : tie.InvT-loop
-Inv-loop n i₀ i = among n table ≡ among n (drop i table)
-
-abbrev μ-loop : tie.MeasureT-loop
-μ-loop n i₀ i = 15 - i
-
-returns : tie.Need-returns Inv-loop μ-loop
-returns c = let l = c .before .before in sym (l .loop .inv ∙ among-stop (l .before .args .n) table (l .loop .i) (omega arith) (c .if1 .taken))
-
-loop-again : tie.Need-loop-again Inv-loop μ-loop
-loop-again c = let l = c .before .before in l .loop .inv ∙ among-next (l .before .args .n) table (l .loop .i) (omega arith) (c .if1 .left)
-
-returns-2 : tie.Need-returns-2 Inv-loop μ-loop
-returns-2 c = let l = c .before in sym (l .loop .inv ∙ among-end (l .before .args .n) table (l .loop .i) (omega arith))
+returns : tie.Need-returns
+returns c = sym (in-gap (c .before .before .args .n) (c .before .if1 .taken) (ltb-true _ 245 (c .if2 .taken)))
 
 pub in-table-spec : {M : Type 1} → statement M
-in-table-spec =
-    tie.close
-    (tie.spec
-    Inv-loop
-    μ-loop
-    (λ c. refl)
-    (λ c. search needs)
-    (λ c. search needs)
-    returns
-    (λ c. search needs)
-    (λ c. search needs)
-    loop-again
-    returns-2)
+in-table-spec = tie.close (tie.spec returns (λ c κs. search needs) (λ c. search needs))

@@ -1,4 +1,4 @@
--- `opcodes::opcode` meets its contract: the constant table is the definition's, and `place` gives the kind's place in it. Assumes nothing.
+-- The constant table is the definition's, and `place` gives the kind's place in it.
 use mathlib.Core.Path.{ap}
 use Prim.Native.Nat.{ℕ}
 use lib.ListN.{getD}

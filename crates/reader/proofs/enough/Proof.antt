@@ -1,8 +1,7 @@
--- `enough` meets its contract. Assumes nothing.
+-- A function slice that is too short decides (`enough-no`), and else the work slice does (`enough-half`).
 use native.Mathlib.Omega.{arith}
 use lib.ListN.{length}
 use Rattle.reader.proofs.Laws.{enough-no, enough-half}
-use borrow.Author.Needs.{needs}
 use Rattle.reader.proofs.enough.Statement.{statement}
 use Rattle.reader.proofs.enough.Tie as tie
 

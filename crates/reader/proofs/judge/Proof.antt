@@ -1,4 +1,5 @@
--- `judge` meets its contract: refusal 1, refusal 2, and then 3 to 7 and 13. Assumes nothing.
+-- A text that is too long is refused by 1 (`long`), one that is not of the forms by 2 (`malformed`); of any other what was read is what the
+-- checks ask (`judged-safe`), and they decide (`judged`).
 use mathlib.Core.Path.{refl, _∙_}
 use native.Mathlib.Omega.{arith}
 use lib.ListN.{length}

@@ -1,5 +1,4 @@
--- `leave` meets its contract. Assumes nothing.
-use mathlib.Core.Path.{sym}
+-- After a refusal what is kept is the cleared slice (`kept-told`), and of a function it is the slice as it was.
 use Rattle.reader.proofs.Laws.{kept-told}
 use borrow.Author.Needs.{needs}
 use Rattle.reader.proofs.leave.Statement.{statement}

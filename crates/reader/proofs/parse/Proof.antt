@@ -1,5 +1,5 @@
--- `parse` meets its contract: refusal 8 leaves everything alone; else the text is judged over zeros, and what is not the function's tables is cleared. Assumes
--- nothing.
+-- Refusal 8 leaves everything alone (`too-short`); else the text is judged over zeros, and what is not the function's tables is cleared
+-- (`answered`).
 use mathlib.Core.Path.{sym, ap, _∙_}
 use native.Mathlib.Omega.{arith}
 use Prim.Native.Nat.{ℕ}

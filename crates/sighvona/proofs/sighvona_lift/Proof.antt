@@ -2,15 +2,11 @@
 use mathlib.Core.Path.{sym, ap, subst, _∙_}
 use borrow.Author.Needs.{needs}
 use Rattle.emitter.specs.declared.Lifted.{Lifted}
-use Rattle.emitter.specs.Lift.{Wants, answerTo, told, wantedTo}
+use Rattle.emitter.specs.Emit.{Wants, told}
+use Rattle.lifter.specs.Lift.{answerTo, wantedTo}
 use Rattle.sighvona.specs.Numbers.{numbers-list, numbers-refusal}
 use Rattle.sighvona.proofs.sighvona_lift.Statement.{statement}
 use Rattle.sighvona.proofs.sighvona_lift.Tie as tie
-use Rattle.sighvona.proofs.sighvona_lift.Reads as reads
-use Rattle.sighvona.proofs.sighvona_lift.Lts as lts
-use Rattle.emitter.proofs.cause_number.Reads as cause-number-reads
-use Rattle.emitter.proofs.lift_function.Reads as lift-function-reads
-use Rattle.sighvona.proofs.words_told.Reads as words-told-reads
 
 lift-function-requires : tie.Need-lift-function-requires
 lift-function-requires c κs = search needs
@@ -24,8 +20,8 @@ enum-known-r-2 c = search needs
 words-told-requires : tie.Need-words-told-requires
 words-told-requires c κs = search needs
 
-cause-number-requires : tie.Need-cause-number-requires
-cause-number-requires c κs = search needs
+number-requires : tie.Need-number-requires
+number-requires c κs = search needs
 
 same-length : tie.Need-same-length
 same-length c = search needs
@@ -61,8 +57,8 @@ returns-2 c =
     let x = answerTo (a .text .now) (a .first) (a .func .now) (a .work .now) (a .out .now) in
     let k = wantedTo (a .text .now) (a .first) (a .func .now) (a .work .now) in
     let g = c .before .before .before .before .r2 .given in
-    let n = numbers-refusal x (g .0 .0) k (a .words .now) (a .next .now) (ap told (sym (g .1)) ∙ e .0) (subst (λ (r : Lifted). Wants k r) (g .1) (e .1 .1 .1 .1)) in
-    (c .cause-number .ensures ∙ n .refusal, (c .before .words-told .ensures ∙ n .count, (n .free, (e .1 .0, (e .1 .1 .0, e .1 .1 .1 .0)))))
+    let n = numbers-refusal x (g .0 .0) (g .0 .1 .0) k (a .words .now) (a .next .now) (ap told (sym (g .1)) ∙ e .0) (subst (λ (r : Lifted). Wants k r) (g .1) (e .1 .1 .1 .1)) in
+    (c .number .ensures ∙ n .refusal, (c .before .words-told .ensures ∙ n .count, (n .free, (e .1 .0, (e .1 .1 .0, e .1 .1 .1 .0)))))
 
 pub sighvona-lift-spec : {M : Type 1} → statement M
 sighvona-lift-spec =
@@ -72,7 +68,7 @@ sighvona-lift-spec =
     enum-known-r
     enum-known-r-2
     words-told-requires
-    cause-number-requires
+    number-requires
     same-length
     same-length-2
     same-length-3

@@ -5,16 +5,11 @@ use native.Mathlib.Omega.{arith}
 use lib.ListN.{length, replicate}
 use borrow.Author.Needs.{needs}
 use Rattle.lifting.specs.Answer as answer
-use Rattle.checks.specs.declared.Parsed.{Parsed}
+use Rattle.check_text.specs.declared.Parsed.{Parsed}
 use Rattle.reader.specs.Parse.{answerOf, funcAfter, workAfter}
 use Rattle.sighvona.specs.Numbers.{readLeaves, readOf}
 use Rattle.sighvona.proofs.sighvona_read.Statement.{statement}
 use Rattle.sighvona.proofs.sighvona_read.Tie as tie
-use Rattle.sighvona.proofs.sighvona_read.Reads as reads
-use Rattle.sighvona.proofs.sighvona_read.Lts as lts
-use Rattle.checks.proofs.number.Reads as number-reads
-use Rattle.func.proofs.clear.Reads as clear-reads
-use Rattle.reader.proofs.parse.Reads as parse-reads
 
 parse-requires : tie.Need-parse-requires
 parse-requires c κs = search needs

@@ -1,4 +1,4 @@
--- `blocks::counts::count_all` meets its contract: the labels of the positions before the next one are counted. Assumes nothing.
+-- The loop's invariant: the labels of the positions before the i-th are counted. The measure is how many are left.
 use Prim.Native.Nat.{_-_}
 use borrow.Author.Needs.{needs}
 use Rattle.blocks.proofs.Counting.{Counting, count-done, count-first, count-next}

@@ -1,4 +1,5 @@
--- `blocks::counts::count_labels` meets its contract: the labels before the next one are counted. Assumes nothing.
+-- The loop's invariant: the labels before the j-th are counted. The measure is how many are left; no more labels are counted so far than there
+-- are in all, so that a count can grow by one (`label-room`).
 use Prim.Native.Nat.{_-_}
 use native.Mathlib.Omega.{arith}
 use borrow.Author.Needs.{needs}

@@ -1,3 +1,0 @@
-pub mod Batch
-pub mod Line
-pub mod Texts

@@ -1,3 +1,0 @@
--- What the proofs of linking cite.
-pub mod Ways
-pub mod Linking

@@ -1,0 +1,89 @@
+-- The front, the values and the targets' labels are appended one behind the other; each field is the terminator's, and the count of ids is that
+-- of values and targets together (`term-is`).
+use mathlib.Core.Path.{sym, subst}
+use Prim.Native.Nat.{_-_}
+use native.Mathlib.Omega.{arith}
+use borrow.Author.Needs.{needs}
+use Rattle.lifting.specs.Walk.{walkOf}
+use Rattle.lifting.specs.Absorb.{kept}
+use Rattle.func.specs.Decode.{funcOf}
+use Rattle.laws.specs.Members.{All}
+use Rattle.lifting_runs.specs.Refers.{Named}
+use Rattle.terminators.specs.Kinds.{termOf}
+use Rattle.emit_words.specs.Put.{put-more, put-same}
+use Rattle.emit_insts.specs.Parts.{term-is}
+use Rattle.emit_ends.proofs.put_term.Statement.{statement}
+use Rattle.emit_ends.proofs.put_term.Tie as tie
+
+term-ins-requires : tie.Need-term-ins-requires
+term-ins-requires c κs = search needs
+
+value-count-requires : tie.Need-value-count-requires
+value-count-requires c κs = search needs
+
+targets-requires : tie.Need-targets-requires
+targets-requires c κs = search needs
+
+add-ids : tie.Need-add-ids
+add-ids c = search needs
+
+term-opcode-requires : tie.Need-term-opcode-requires
+term-opcode-requires c κs = search needs
+
+term-attrs-requires : tie.Need-term-attrs-requires
+term-attrs-requires c κs = search needs
+
+term-imms-requires : tie.Need-term-imms-requires
+term-imms-requires c κs = search needs
+
+put-front-requires : tie.Need-put-front-requires
+put-front-requires c κs =
+    let a = c .before .before .before .before .before .before .before .before .before .before .args in
+    let p = c .before .before .before .before .before .before .before .before .before .before .pre in
+    let F = funcOf (a .func .now) in
+    (p .0 .laid .tables, (c .term-imms .ensures .fits, omega (arith, c .before .before .before .before .before .value-count .ensures .1, c .before .before .before .before .targets .ensures .1)))
+
+put-values-requires : tie.Need-put-values-requires
+put-values-requires c κs =
+    let a = c .before .before .before .before .before .before .before .before .before .before .before .before .before .before .args in
+    let p = c .before .before .before .before .before .before .before .before .before .before .before .before .before .before .pre in
+    let F = funcOf (a .func .now) in
+    let v = c .before .before .before .before .before .before .before .before .before .before .term-ins .ensures in
+    (p .0, (p .1 .0 .0, (v .fits, subst (All (Named F)) (sym (v .is)) (p .1 .1 .1))))
+
+put-targets-requires : tie.Need-put-targets-requires
+put-targets-requires c κs =
+    let a = c .before .before .before .before .before .before .before .before .before .before .before .before .before .before .before .before .before .before .args in
+    let p = c .before .before .before .before .before .before .before .before .before .before .before .before .before .before .before .before .before .before .pre in
+    let F = funcOf (a .func .now) in
+    (p .0, (p .1 .0 .1, p .1 .1 .0))
+
+same-length : tie.Need-same-length
+same-length c = search needs
+
+returns : tie.Need-returns
+returns c =
+    let a = c .before .before .before .before .before .before .before .before .before .before .before .before .before .before .before .before .before .before .before .before .before .args in
+    let p = c .before .before .before .before .before .before .before .before .before .before .before .before .before .before .before .before .before .before .before .before .before .pre in
+    let F = funcOf (a .func .now) in
+    let v = c .before .before .before .before .before .before .before .before .before .before .before .before .before .before .before .before .before .term-ins .ensures in
+    put-same (put-more (c .before .before .before .before .before .before .before .before .before .before .put-front .ensures) (put-more (c .before .before .before .before .before .before .put-values .ensures) (c .before .before .put-targets .ensures)))
+    (term-is F (a .first) (walkOf F) (kept (walkOf F)) (termOf F (a .w)) _ _ _ _ _ (c .before .before .before .before .before .before .before .before .before .before .before .before .before .term-opcode .ensures) (c .before .before .before .before .before .before .before .before .before .before .before .before .term-attrs .ensures) (c .before .before .before .before .before .before .before .before .before .before .before .term-imms .ensures .is) (v .is)
+    (omega (arith, c .before .before .before .before .before .before .before .before .before .before .before .before .before .before .before .before .value-count .ensures .0, c .before .before .before .before .before .before .before .before .before .before .before .before .before .before .before .targets .ensures .0)))
+
+pub put-term-spec : {M : Type 1} → statement M
+put-term-spec =
+    tie.close
+    (tie.spec
+    term-ins-requires
+    value-count-requires
+    targets-requires
+    add-ids
+    term-opcode-requires
+    term-attrs-requires
+    term-imms-requires
+    put-front-requires
+    put-values-requires
+    put-targets-requires
+    same-length
+    returns)

@@ -1,0 +1,66 @@
+-- A parameter is a front alone (`param-is`), and its id, so far behind the first one as the parameter stands, fits 32 bits since there are at
+-- most 64 parameters.
+use mathlib.Core.Path.{refl, _∙_}
+use Prim.Native.Nat.{_-_, _≤_}
+use native.Mathlib.Omega.{arith}
+use borrow.Author.Needs.{needs}
+use Rattle.func.specs.Decode.{funcOf}
+use Rattle.emit_words.specs.Put.{id, put-same}
+use Rattle.emit_insts.specs.Parts.{front-same}
+use Rattle.emit_list.specs.Points.{param-is}
+use Rattle.emit_list.specs.Laws.{few-params}
+use Rattle.emit_list.proofs.put_param.Statement.{statement}
+use Rattle.emit_list.proofs.put_param.Tie as tie
+
+param-attrs-requires : tie.Need-param-attrs-requires
+param-attrs-requires c κs = search needs
+
+param-type-requires : tie.Need-param-type-requires
+param-type-requires c κs = search needs
+
+add-result : tie.Need-add-result
+add-result c = search needs
+
+cast-result : tie.Need-cast-result
+cast-result c =
+    let a = c .before .before .before .before .args in
+    let p = c .before .before .before .before .pre in
+    let F = funcOf (a .func .now) in
+    let f : a .i ≤ 64 = omega (arith, few-params (p .0), p .1 .0) in search needs
+
+add-result-2 : tie.Need-add-result-2
+add-result-2 c =
+    let a = c .before .before .before .before .args in
+    let p = c .before .before .before .before .pre in
+    let F = funcOf (a .func .now) in
+    let f : a .i ≤ 64 = omega (arith, few-params (p .0), p .1 .0) in let g = p .1 .1 in search needs
+
+opcode-requires : tie.Need-opcode-requires
+opcode-requires c κs = search needs
+
+put-front-requires : tie.Need-put-front-requires
+put-front-requires c κs = search needs
+
+same-length : tie.Need-same-length
+same-length c = search needs
+
+returns : tie.Need-returns
+returns c =
+    let a = c .before .before .before .before .before .before .before .before .before .args in
+    let p = c .before .before .before .before .before .before .before .before .before .pre in
+    let F = funcOf (a .func .now) in
+    put-same (c .before .before .put-front .ensures) (front-same _ (c .before .before .before .opcode .ensures) refl refl refl refl ∙ param-is F (a .first) (a .i) (p .1 .0) _ _ _ (c .before .before .before .before .before .before .param-attrs .ensures) (c .before .before .before .before .before .param-type .ensures) refl)
+
+pub put-param-spec : {M : Type 1} → statement M
+put-param-spec =
+    tie.close
+    (tie.spec
+    param-attrs-requires
+    param-type-requires
+    add-result
+    cast-result
+    add-result-2
+    opcode-requires
+    put-front-requires
+    same-length
+    returns)

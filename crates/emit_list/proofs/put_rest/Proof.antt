@@ -1,0 +1,58 @@
+-- The ops come first; the glue word is 1 just where the point absorbs the next one, and there the block has no end yet.
+use mathlib.Core.Path.{sym, ap, _∙_}
+use mathlib.Core.Bool.{Bool}
+use mathlib.Core.List.{_++_, append-nil}
+use Prim.Native.Nat.{_+_, _-_}
+use borrow.Author.Needs.{needs}
+use Rattle.func.specs.Decode.{funcOf}
+use Rattle.terminators.specs.At.{blockAt}
+use Rattle.blocks.specs.Absorbs.{absorbs}
+use Rattle.emit_words.specs.Put.{put-more, put-same}
+use Rattle.emit_list.specs.Points.{endIf, opsAt}
+use Rattle.emit_list.specs.Laws.{absorbs-false, absorbs-true}
+use Rattle.emit_list.proofs.put_rest.Statement.{statement}
+use Rattle.emit_list.proofs.put_rest.Tie as tie
+
+put-ops-requires : tie.Need-put-ops-requires
+put-ops-requires c κs = search needs
+
+word-requires : tie.Need-word-requires
+word-requires c κs = search needs
+
+same-length : tie.Need-same-length
+same-length c = search needs
+
+returns : tie.Need-returns
+returns c =
+    let a = c .before .before .before .before .before .before .before .before .before .args in
+    let p = c .before .before .before .before .before .before .before .before .before .pre in
+    let F = funcOf (a .func .now) in
+    put-same (c .before .before .before .before .put-ops .ensures)
+    (sym (append-nil (opsAt F (a .first) (a .i)))
+    ∙ ap (λ (b : Bool). opsAt F (a .first) (a .i) ++ endIf F (a .first) b (blockAt F (a .i) .term)) (sym (absorbs-true (absorbs F (a .i)) (sym (c .before .word .ensures ∙ p .0 .ready .laid .glued .absorb (a .i) (p .1)) ∙ c .if1 .taken))))
+
+put-end-requires : tie.Need-put-end-requires
+put-end-requires c κs = search needs
+
+same-length-2 : tie.Need-same-length-2
+same-length-2 c = search needs
+
+returns-2 : tie.Need-returns-2
+returns-2 c =
+    let a = c .before .before .before .before .before .before .before .before .before .before .before .before .before .args in
+    let p = c .before .before .before .before .before .before .before .before .before .before .before .before .before .pre in
+    let F = funcOf (a .func .now) in
+    put-same (put-more (c .before .before .before .before .before .before .before .before .put-ops .ensures) (c .before .before .put-end .ensures))
+    (ap (λ (b : Bool). opsAt F (a .first) (a .i) ++ endIf F (a .first) b (blockAt F (a .i) .term)) (sym (absorbs-false (absorbs F (a .i)) (λ e. c .before .before .before .before .if1 .left (c .before .before .before .before .before .word .ensures ∙ p .0 .ready .laid .glued .absorb (a .i) (p .1) ∙ e)))))
+
+pub put-rest-spec : {M : Type 1} → statement M
+put-rest-spec =
+    tie.close
+    (tie.spec
+    put-ops-requires
+    word-requires
+    same-length
+    returns
+    put-end-requires
+    same-length-2
+    returns-2)

@@ -1,3 +1,0 @@
--- What the proofs of new ids cite.
-pub mod Giving
-pub mod Numbering

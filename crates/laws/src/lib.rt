@@ -1,0 +1,1 @@
+// Laws of lists, tests and words that say nothing of lifting: all of it stands in specs/.

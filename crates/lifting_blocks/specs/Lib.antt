@@ -1,0 +1,26 @@
+-- Kept blocks as one pass over the visited points, and demand 2's theorems about the list.
+pub mod Gathered
+pub mod Flat
+pub mod FlatLaws
+pub mod Chain
+pub mod Neighbours
+pub mod Beside
+pub mod Steps
+pub mod Uses
+pub mod Totals
+pub mod Nearby
+pub mod NeverDecides
+pub mod Follow
+pub mod Phis
+pub mod SetIds
+pub mod ListFlat
+pub mod Kept
+pub mod Standing
+pub mod Callees
+pub mod Missing
+pub mod Below
+pub mod Labels
+pub mod Merges
+pub mod Cleared
+pub mod Laws
+pub mod Demand2

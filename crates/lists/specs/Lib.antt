@@ -1,3 +1,0 @@
--- The lists that an instruction is made of, by the lines that they stand in.
-pub mod Named
-pub mod Phis

@@ -1,2 +1,0 @@
--- What the proofs of phis and their pairs cite.
-pub mod Steps

@@ -1,0 +1,171 @@
+-- The lines of a function, put one visited point at a time. Assumes nothing.
+--     chain-at, run-suc, run-next, run-end     the points of a block, by position
+--     lines-are                       the lines are what stands at each position, one after the other
+--     part-starts, part-goes          what stands at a position, by where its point stands
+--     part-gone, part-is              and by its words
+--     side-region, side-node          a point by its number
+use mathlib.Core.Path.{_≡_, refl, sym, ap, subst, _∙_}
+use mathlib.Core.Bool.{Bool, true, false, cond}
+use mathlib.Core.List.{List, [], _∷_, _++_}
+use Prim.Native.Nat.{ℕ, zero, suc, _+_, _-_, _/_, _%_, _≤_, _<_}
+use native.Mathlib.Numerals.{add-one}
+use native.Mathlib.Omega.{arith}
+use lib.Dec.{eqb, ltb}
+use lib.ListN.{length, getD, drop}
+use borrow.Author.Tests.{lt-ltb, le-ltb}
+use Rattle.lifting.specs.Bytes.{bytes}
+use Rattle.lifting.specs.Digits.{digits}
+use Rattle.laws.specs.Lists.{choose-no, choose-yes, gather}
+use Rattle.lifting.specs.Ast.{Func}
+use Rattle.lifting.specs.Points.{CfgPoint, regionEntry, regionExit, nodeEntry, nodeExit, eqPoint, Terminator, Table, points}
+use Rattle.lifting.specs.Walk.{walkOf}
+use Rattle.lifting.specs.Absorb.{useCount, kept}
+use Rattle.laws.specs.Gather.{gather-none}
+use Rattle.laws.specs.Members.{In, NoDup}
+use Rattle.lifting_runs.specs.Shaped.{Shaped}
+use Rattle.lifting_blocks.specs.Flat.{Pass, Status, gone, starts, goes, glueAt, blockPart, blockParts, unlessGlued, part, partAt, upTo, noPair}
+use Rattle.lifting_blocks.specs.Laws.{each-once, pass-is}
+use Rattle.walk_points.specs.Numbers.{nodeBase, pointNumber, pointOf, point-back, number-low, Small}
+use Rattle.terminators.specs.At.{pointAt, blockAt}
+use Rattle.blocks.specs.Absorbs.{stands, absorbs, absorbed, statusWord, word-gone, word-starts, word-goes, goes-from}
+use Rattle.print_blocks.specs.Lines.{pointBytes, runOf, runFrom, chainOf, startBytes, endBytes, blockBytes, linesOf}
+
+-- ---- the points of a block
+
+points-in : (T : Table) (i : ℕ) → i < length T → In (getD T i noPair .0) (points T)
+points-in [] i h = absurd (omega arith)
+points-in (x ∷ T) zero h = In.here
+points-in (x ∷ T) (suc i) h = In.there (points-in T i (omega arith))
+
+module _ (c : CfgPoint → ℕ) where
+  run-at : (T : Table) (i : ℕ) → NoDup (points T) → i < length T → runFrom c (getD T i noPair .0) T ≡ runOf c (drop i T)
+  unfolding runFrom
+  run-at [] i once h = absurd (omega arith)
+  run-at (x ∷ T) zero once h = choose-yes (eqPoint (x .0) (x .0)) _ _ refl
+  run-at (x ∷ T) (suc i) once h =
+      let p = getD T i noPair .0 in
+      choose-no (eqPoint p (x .0)) _ _ (λ e. once .0 (subst (λ (q : CfgPoint). In q (points T)) e (points-in T i (omega arith)))) ∙ run-at T i (once .1) (omega arith)
+
+  pub run-suc : (T : Table) (i : ℕ) → i < length T → runOf c (drop i T) ≡ getD T i noPair .0 ∷ cond (glueAt c T i) (runOf c (drop (suc i) T)) []
+  unfolding runOf glueAt
+  run-suc [] i h = absurd (omega arith)
+  run-suc (x ∷ T) zero h = refl
+  run-suc (x ∷ T) (suc i) h = run-suc T i (omega arith)
+
+  pub run-next : (T : Table) (i : ℕ) → i < length T → runOf c (drop i T) ≡ getD T i noPair .0 ∷ cond (glueAt c T i) (runOf c (drop (i + 1) T)) []
+  run-next T i h = run-suc T i h ∙ ap (λ (n : ℕ). getD T i noPair .0 ∷ cond (glueAt c T i) (runOf c (drop n T)) []) (sym (add-one i))
+
+  pub run-end : (T : Table) (i : ℕ) → length T ≤ i → runOf c (drop i T) ≡ []
+  unfolding runOf
+  run-end [] zero h = refl
+  run-end [] (suc i) h = refl
+  run-end (x ∷ T) zero h = absurd (omega arith)
+  run-end (x ∷ T) (suc i) h = run-end T i (omega arith)
+
+-- ---- what stands at a position
+
+module _ (F : Func) where
+  abbrev T : Table
+  T = walkOf F
+
+  -- the run that starts at position i
+  abbrev pub runAt : ℕ → List CfgPoint
+  runAt i = runOf (useCount (walkOf F)) (drop i (walkOf F))
+
+  pub chain-at : Shaped F → (i : ℕ) → i < length T → chainOf F (pointAt F i) ≡ runAt i
+  unfolding chainOf
+  chain-at ok i h = run-at (useCount T) T i (each-once F ok) h
+
+  -- a pass over kept blocks
+  abbrev pub linePass : Pass ℕ
+  linePass = record { start = λ p ks ds. startBytes F p; op = λ i. []; end = endBytes F }
+
+  abbrev pub lineAt : ℕ → List ℕ
+  lineAt i = partAt (useCount (walkOf F)) linePass (walkOf F) i
+
+  lines-pass : (K : Table) → gather (blockBytes F) K ≡ blockParts linePass K
+  unfolding blockBytes blockParts blockPart
+  lines-pass [] = refl
+  lines-pass (x ∷ K) =
+      ap (λ (l : List ℕ). (startBytes F (x .0) ++ endBytes F (x .0) (x .1 .term)) ++ l) (lines-pass K)
+      ∙ ap (λ (l : List ℕ). (startBytes F (x .0) ++ (l ++ endBytes F (x .0) (x .1 .term))) ++ blockParts linePass K) (sym (gather-none (x .1 .ops)))
+
+  pub lines-are : Shaped F → linesOf F ≡ upTo lineAt (length T)
+  unfolding linesOf
+  lines-are ok = lines-pass (kept T) ∙ pass-is F ok linePass
+
+  -- the start of a line, unless the point before absorbs this one
+  abbrev pub beginBytes : Bool → CfgPoint → List ℕ
+  beginBytes true p = []
+  beginBytes false p = startBytes F p
+
+  abbrev pub closeBytes : Bool → CfgPoint → Terminator → List ℕ
+  closeBytes true p t = []
+  closeBytes false p t = endBytes F p t
+
+  by-glue : (g : Bool) (p : CfgPoint) (t : Terminator) (ops : List ℕ) → gather {B = ℕ} (λ (i : ℕ). []) ops ++ unlessGlued linePass g (endBytes F p t) ≡ closeBytes g p t
+  by-glue true p t ops = ap (λ (l : List ℕ). l ++ []) (gather-none ops)
+  by-glue false p t ops = ap (λ (l : List ℕ). l ++ endBytes F p t) (gather-none ops)
+
+  at-status : (i : ℕ) (s : Status) → stands F i ≡ s → lineAt i ≡ part linePass s (absorbs F i) (getD T i noPair)
+  unfolding partAt
+  at-status i s e = ap (λ (s : Status). part linePass s (absorbs F i) (getD T i noPair)) e
+
+  pub part-gone : (i : ℕ) → statusWord (stands F i) (pointAt F i) ≡ 0 → lineAt i ≡ []
+  unfolding part
+  part-gone i e = at-status i gone (word-gone (stands F i) (pointAt F i) e)
+
+  pub part-starts : (i : ℕ) → stands F i ≡ starts → lineAt i ≡ startBytes F (pointAt F i) ++ closeBytes (absorbs F i) (pointAt F i) (blockAt F i .term)
+  unfolding part
+  part-starts i e = at-status i starts e ∙ ap (λ (l : List ℕ). startBytes F (pointAt F i) ++ l) (by-glue (absorbs F i) (pointAt F i) (blockAt F i .term) (blockAt F i .ops))
+
+  pub part-goes : (i : ℕ) (h : CfgPoint) → stands F i ≡ goes h → lineAt i ≡ closeBytes (absorbs F i) h (blockAt F i .term)
+  unfolding part
+  part-goes i h e = at-status i (goes h) e ∙ by-glue (absorbs F i) h (blockAt F i .term) (blockAt F i .ops)
+
+  module _ (small : (j : ℕ) → j < length T → Small (pointAt F j)) (i : ℕ) (h : i < length T) (s : ℕ) (word : s ≡ statusWord (stands F i) (pointAt F i)) (used : ¬ (s ≡ 0)) where
+    pub part-is : (b : Bool) → absorbed F i ≡ b
+        → (lineAt i ≡ beginBytes b (pointAt F i) ++ closeBytes (absorbs F i) (pointOf (s - 1)) (blockAt F i .term)) × (s - 1 < 512)
+    part-is false e =
+        let st = word-starts F i e (λ z. used (word ∙ z)) in
+        let n : s - 1 ≡ pointNumber (pointAt F i) = omega (arith, word, ap (λ (x : Status). statusWord x (pointAt F i)) st) in
+        let p : pointAt F i ≡ pointOf (s - 1) = sym (ap pointOf n ∙ point-back (pointAt F i) (small i h)) in
+        (part-starts i st ∙ ap (λ (q : CfgPoint). startBytes F (pointAt F i) ++ closeBytes (absorbs F i) q (blockAt F i .term)) p, omega (arith, n, number-low (pointAt F i) (small i h)))
+    part-is true e =
+        let g = word-goes F i e (λ z. used (word ∙ z)) in
+        let from = goes-from F i (g .1) in
+        let low : Small (g .0) = subst Small (sym (from .2)) (small (from .0) (omega (arith, from .1))) in
+        let n : s - 1 ≡ pointNumber (g .0) = omega (arith, word, g .2) in
+        let p : g .0 ≡ pointOf (s - 1) = sym (ap pointOf n ∙ point-back (g .0) low) in
+        (part-goes i (g .0) (g .1) ∙ ap (λ (q : CfgPoint). closeBytes (absorbs F i) q (blockAt F i .term)) p, omega (arith, n, number-low (g .0) low))
+
+-- ---- a point by its number
+
+-- with what a point's name begins, its number among those of its kind, and the side
+abbrev pub sideBytes : List ℕ → ℕ → List ℕ
+sideBytes k x = k ++ (digits (x / 2) ++ cond (eqb (x % 2) 0) (bytes "+") (bytes "-"))
+
+by-side : (k : List ℕ) (a b : ℕ → CfgPoint) → ((n : ℕ) → pointBytes (a n) ≡ k ++ (digits n ++ bytes "+")) → ((n : ℕ) → pointBytes (b n) ≡ k ++ (digits n ++ bytes "-"))
+    → (x : ℕ) (t : Bool) → pointBytes (cond t (a (x / 2)) (b (x / 2))) ≡ k ++ (digits (x / 2) ++ cond t (bytes "+") (bytes "-"))
+by-side k a b e f x true = e (x / 2)
+by-side k a b e f x false = f (x / 2)
+
+side-is : (x : ℕ) (t : Bool) → ltb x nodeBase ≡ t → pointBytes (pointOf x) ≡ cond t (sideBytes (bytes " r") x) (sideBytes (bytes " n") (x - nodeBase))
+unfolding pointOf
+side-is x t e = ap (λ (t : Bool). pointBytes (cond t region node)) e ∙ go t
+  where
+    region : CfgPoint
+    region = cond (eqb (x % 2) 0) (regionEntry (x / 2)) (regionExit (x / 2))
+
+    node : CfgPoint
+    node = cond (eqb ((x - nodeBase) % 2) 0) (nodeEntry ((x - nodeBase) / 2)) (nodeExit ((x - nodeBase) / 2))
+
+    go : (t : Bool) → pointBytes (cond t region node) ≡ cond t (sideBytes (bytes " r") x) (sideBytes (bytes " n") (x - nodeBase))
+    go true = by-side (bytes " r") regionEntry regionExit (λ n. refl) (λ n. refl) x (eqb (x % 2) 0)
+    go false = by-side (bytes " n") nodeEntry nodeExit (λ n. refl) (λ n. refl) (x - nodeBase) (eqb ((x - nodeBase) % 2) 0)
+
+pub side-region : (x : ℕ) → x < nodeBase → pointBytes (pointOf x) ≡ sideBytes (bytes " r") x
+side-region x h = side-is x true (lt-ltb x nodeBase h)
+
+pub side-node : (x : ℕ) → nodeBase ≤ x → pointBytes (pointOf x) ≡ sideBytes (bytes " n") (x - nodeBase)
+side-node x h = side-is x false (le-ltb x nodeBase h)

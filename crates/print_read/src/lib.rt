@@ -1,0 +1,35 @@
+// What is printed of the reader's answer to a text: the refusal's number, or the word `accepted`.
+use check_text::Parsed;
+use print_bytes::put_byte;
+use print_bytes::put_bytes;
+use print_bytes::put_number;
+use refusals::number;
+ghost use mathlib.Core.Path.{_≡_};
+ghost use lib.ListN.{length};
+ghost use Rattle.lifting.specs.Answer.{parse};
+ghost use Rattle.reader.specs.Parse.{funcAfter, workAfter};
+ghost use Rattle.print_bytes.specs.Put.{Put};
+ghost use Rattle.print_read.specs.Line.{lineOf, readBytes};
+
+// The bytes of the line for an answer stand in `bytes`: how many.
+fn put_line(bytes: &mut [u8], parsed: Parsed) -> usize
+    ensures { λ n. ⌜ Put (now (bytes .entry)) 0 (lineOf parsed) (now (bytes .exit)) n ⌝ }
+{
+    match parsed {
+        Parsed::Function => put_bytes(bytes, 0, b"accepted\n"),
+        Parsed::Refused(r) => {
+            let n = put_number(bytes, 0, number(r));
+            put_byte(bytes, n, b'\n')
+        }
+    }
+}
+
+// The bytes of the line for a text stand in `bytes`: how many.
+pub fn put_read(bytes: &mut [u8], text: &[u8], func: &mut [u32], work: &mut [u32]) -> usize
+    ensures printed { λ n. ⌜ Put (now (bytes .entry)) 0 (readBytes (parse (now (text .entry)) (length (now (func .entry))) (length (now (work .entry))))) (now (bytes .exit)) n ⌝ }
+    ensures func_slice { λ _. ⌜ now (func .exit) ≡ funcAfter (parse (now (text .entry)) (length (now (func .entry))) (length (now (work .entry)))) (now (func .entry)) ⌝ }
+    ensures work_slice { λ _. ⌜ now (work .exit) ≡ workAfter (parse (now (text .entry)) (length (now (func .entry))) (length (now (work .entry)))) (now (work .entry)) ⌝ }
+{
+    let parsed = reader::parse(text, func, work);
+    put_line(bytes, parsed)
+}

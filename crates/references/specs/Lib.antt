@@ -1,5 +1,0 @@
--- Refusals 3 and 4, judged by the words of the function slice.
-pub mod Every
-pub mod Test
-pub mod Limits
-pub mod Hold

@@ -1,0 +1,2 @@
+-- Why it is enough to keep the first bytes of a case.
+pub mod Kept

@@ -1,0 +1,3 @@
+-- The work slice: its tables, and what a call leaves alone.
+pub mod Layout
+pub mod Aside
