@@ -11,7 +11,7 @@ use Rattle.lifting.specs.Points.{CfgPoint, regionEntry}
 use Rattle.lifting.specs.Walk.{walkOf}
 use Rattle.lifting.specs.Absorb.{labels}
 use Rattle.func.specs.Decode.{funcOf}
-use Rattle.laws.specs.Members.{in-getD}
+use Rattle.general_laws.specs.Members.{in-getD}
 use Rattle.lifting_runs.specs.Shaped.{walk-first}
 use Rattle.work.specs.Layout.{usesAt, usesEnd}
 use Rattle.work.specs.Aside.{Aside, aside-none, aside-set, aside-more}

@@ -19,11 +19,11 @@ use Rattle.lifting.specs.Points.{CfgPoint, Terminator}
 use Rattle.lifting.specs.Walk.{walkOf}
 use Rattle.lifting.specs.Absorb.{labels, soleTarget, useCount}
 use Rattle.func.specs.Decode.{funcOf}
-use Rattle.laws.specs.Members.{In, here}
+use Rattle.general_laws.specs.Members.{In, here}
 use Rattle.lifting_runs.specs.AbsorbCount.{sole-straight}
 use Rattle.work.specs.Layout.{pointsAt, usesAt, statusesAt, absorbsAt, absorbsEnd}
 use Rattle.work.specs.Aside.{Aside, aside-none, aside-set, aside-more, split}
-use Rattle.lifting_blocks.specs.Flat.{byCount, glues, gluesTo}
+use Rattle.lifting_blocks.specs.Flat.{byCount, absorbsNext, absorbsTarget}
 use Rattle.lifting_blocks.specs.FlatLaws.{glue-last, glue-next}
 use Rattle.walk_points.specs.Numbers.{Small, number-low, pointNumber, pointOf}
 use Rattle.terminators.specs.At.{blockAt, pointAt}
@@ -126,13 +126,13 @@ module _ {w u : List ℕ} {m : ℕ} (k : Visited w u m) (i : ℕ) (h : i < m) wh
     pub next-low : i + 1 < m
     next-low = omega arith
 
-    by : absorbs (funcOf w) i ≡ gluesTo sole q (useCount (walkOf (funcOf w)) q) (blockAt (funcOf w) (suc i) .keys)
-    unfolding glues
+    by : absorbs (funcOf w) i ≡ absorbsTarget sole q (useCount (walkOf (funcOf w)) q) (blockAt (funcOf w) (suc i) .keys)
+    unfolding absorbsNext
     by = glue-next (useCount (walkOf (funcOf w))) (walkOf (funcOf w)) i (omega (arith, k .count))
 
     pub glue-none : s ≡ Nowhere → false ≡ absorbs (funcOf w) i
     glue-none g =
-        sym (by ∙ ap (λ (o : Option CfgPoint). gluesTo o q (useCount (walkOf (funcOf w)) q) (blockAt (funcOf w) (suc i) .keys)) (none-of sole (sym e ∙ g)))
+        sym (by ∙ ap (λ (o : Option CfgPoint). absorbsTarget o q (useCount (walkOf (funcOf w)) q) (blockAt (funcOf w) (suc i) .keys)) (none-of sole (sym e ∙ g)))
 
     pub glue-to : {t : ℕ} → s ≡ To t → {b : Bool}
         → b ≡ joinable (funcOf w) (i + 1) t → b ≡ absorbs (funcOf w) i
@@ -144,7 +144,7 @@ module _ {w u : List ℕ} {m : ℕ} (k : Visited w u m) (i : ℕ) (h : i < m) wh
         ∙ ap (λ (x : ℕ). joinable (funcOf w) x t) (add-one i)
         ∙ ap (joinable (funcOf w) (suc i)) (o .2)
         ∙ sym (by
-        ∙ ap (λ (x : Option CfgPoint). gluesTo x q (useCount (walkOf (funcOf w)) q) (blockAt (funcOf w) (suc i) .keys)) (o .1)
+        ∙ ap (λ (x : Option CfgPoint). absorbsTarget x q (useCount (walkOf (funcOf w)) q) (blockAt (funcOf w) (suc i) .keys)) (o .1)
         ∙ glue-is (o .0) q small (point-small k (suc i) (omega (arith, next-low))) (useCount (walkOf (funcOf w)) q) (blockAt (funcOf w) (suc i) .keys))
 
 -- ---- the pass

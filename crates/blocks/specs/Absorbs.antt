@@ -13,14 +13,14 @@ use native.Mathlib.Omega.{arith}
 use lib.Dec.{eqb}
 use lib.ListN.{getD, length}
 use borrow.Author.Tests.{eq-eqb, ne-eqb}
-use Rattle.laws.specs.Lists.{choose, choose-no, choose-yes}
+use Rattle.general_laws.specs.Lists.{choose, choose-no, choose-yes}
 use Rattle.lifting.specs.Ast.{Func, Value}
 use Rattle.lifting.specs.Points.{CfgPoint, eqPoint}
 use Rattle.lifting.specs.Walk.{walkOf}
 use Rattle.lifting.specs.Absorb.{useCount}
 use Rattle.work.specs.Layout.{statusesAt, absorbsAt}
 use Rattle.work.specs.Aside.{split}
-use Rattle.lifting_blocks.specs.Flat.{Status, byCount, carry, glueAt, gluesTo, goes, gone, noKeys, starts, status, statusAt, statusFrom}
+use Rattle.lifting_blocks.specs.Flat.{Status, byCount, carry, absorbsHere, absorbsTarget, goes, gone, noKeys, starts, status, statusAt, statusFrom}
 use Rattle.walk_points.specs.Numbers.{Small, point-back, pointNumber, pointOf}
 use Rattle.terminators.specs.At.{blockAt, pointAt}
 
@@ -39,7 +39,7 @@ module _ (F : Func) where
   stands i = statusAt (useCount (walkOf F)) (walkOf F) i
 
   abbrev pub absorbs : ℕ → Bool
-  absorbs i = glueAt (useCount (walkOf F)) (walkOf F) i
+  absorbs i = absorbsHere (useCount (walkOf F)) (walkOf F) i
 
   -- the point before position i absorbs it
   abbrev pub absorbed : ℕ → Bool
@@ -156,7 +156,7 @@ by-count n b =
     (λ e. choose-no (ℕ-discrete n 1) b false e ∙ sym (ap (λ (t : Bool). t && b) (ne-eqb n 1 e)))
 
 pub glue-is : (p q : CfgPoint) → Small p → Small q → (n : ℕ) (ks : List Value)
-    → gluesTo (some p) q n ks ≡ (eqb (pointNumber p) (pointNumber q) && (eqb n 1 && eqb (length ks) 0))
+    → absorbsTarget (some p) q n ks ≡ (eqb (pointNumber p) (pointNumber q) && (eqb n 1 && eqb (length ks) 0))
 glue-is p q a b n ks =
     let rest : choose (ℕ-discrete n 1) (noKeys ks) false ≡ (eqb n 1 && eqb (length ks) 0) = by-count n (noKeys ks) ∙ ap (λ (t : Bool). eqb n 1 && t)
     (no-keys ks) in

@@ -6,7 +6,7 @@ use mathlib.Core.List.{List, []}
 use Prim.Native.Nat.{ℕ, _+_, _-_, _≤_, _<_}
 use native.Mathlib.Omega.{arith}
 use lib.ListN.{getD, length}
-use Rattle.laws.specs.Compare.{lower, higher}
+use Rattle.general_laws.specs.Compare.{lower, higher}
 use Rattle.lifting.specs.Ast.{Func}
 use Rattle.lifting.specs.Walk.{walkOf}
 use Rattle.lifting_runs.specs.EveryText.{walk-none}

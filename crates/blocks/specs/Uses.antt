@@ -9,12 +9,12 @@ use native.Mathlib.Numerals.{add-one}
 use native.Mathlib.Omega.{arith}
 use lib.ListN.{getD, length, set, take}
 use lib.Seq.{getD-set-other, getD-set-same, take-length, take-suc}
-use Rattle.laws.specs.Lists.{choose, choose-no, choose-yes, gather}
+use Rattle.general_laws.specs.Lists.{choose, choose-no, choose-yes, gather}
 use Rattle.lifting.specs.Ast.{Func}
 use Rattle.lifting.specs.Points.{BlockLifting, CfgPoint, Table, eqPoint}
 use Rattle.lifting.specs.Walk.{walkOf}
 use Rattle.lifting.specs.Absorb.{countIn, labels, useCount}
-use Rattle.laws.specs.Gather.{gather-append}
+use Rattle.general_laws.specs.Gather.{gather-append}
 use Rattle.work.specs.Layout.{usesAt, usesEnd}
 use Rattle.work.specs.Aside.{Cleared, split}
 use Rattle.lifting_blocks.specs.Flat.{noPair}

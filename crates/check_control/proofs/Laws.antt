@@ -5,7 +5,7 @@ use Prim.Native.Nat.{ℕ}
 use native.Mathlib.Omega.{arith}
 use lib.ListN.{length}
 use borrow.Author.Tests.{lt-ltb, le-ltb}
-use Rattle.laws.specs.Lists.{every, within, distinct, keys}
+use Rattle.general_laws.specs.Lists.{every, within, distinct, keys}
 use Rattle.lifting.specs.Ast.{ControlInst, Func}
 use Rattle.lifting.specs.Control.{kindFits, isRoot, ctrlFits}
 use Rattle.func.specs.declared.CtrlKind.{CtrlKind}

@@ -11,8 +11,8 @@ use native.Mathlib.Decide.{ℕ-discrete}
 use native.Mathlib.Omega.{arith}
 use lib.Dec.{eqb, leb, ltb}
 use lib.ListN.{length, getD, drop}
-use Rattle.laws.specs.Every.{every-both, every-keys}
-use Rattle.laws.specs.Lists.{choose, choose-yes, choose-no, every, within, distinct, keys, tabulate}
+use Rattle.general_laws.specs.Every.{every-both, every-keys}
+use Rattle.general_laws.specs.Lists.{choose, choose-yes, choose-no, every, within, distinct, keys, tabulate}
 use Rattle.lifting.specs.Ast.{boolCond, spvInst, ControlInstKind, unreachable, return, branch, selectBranch, exitInvocation, ControlInst, Func}
 use Rattle.lifting.specs.Order.{roots}
 use Rattle.lifting.specs.Control.{kindFits, isRoot, ctrlFits, reachedFit, controlFits}

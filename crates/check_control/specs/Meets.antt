@@ -9,9 +9,9 @@ use native.Mathlib.Omega.{arith}
 use lib.Dec.{leb, ltb, lit<}
 use lib.ListN.{length, getD}
 use borrow.Author.Tests.{ltb-true}
-use Rattle.laws.specs.Every.{every-at, every-parts, every-split}
-use Rattle.laws.specs.Tests.{both}
-use Rattle.laws.specs.Lists.{every, distinct, keys}
+use Rattle.general_laws.specs.Every.{every-at, every-parts, every-split}
+use Rattle.general_laws.specs.Tests.{both}
+use Rattle.general_laws.specs.Lists.{every, distinct, keys}
 use Rattle.lifting.specs.Ast.{block, Node, ControlInst, Func}
 use Rattle.lifting.specs.Parts.{nodeOf, childrenOf, values, insts, nodeList, opList, childList, ctrlRegions, requiredIds}
 use Rattle.lifting.specs.Limits.{maxOpcode}
@@ -19,7 +19,7 @@ use Rattle.lifting.specs.References.{named, instFits, controlHolds, referencesH
 use Rattle.func.specs.Layout.{regions}
 use Rattle.func.specs.Decode.{funcOf}
 use Rattle.func.specs.Tables.{Tables, ctrlLine, region-total}
-use Rattle.walk_roots.specs.Tables.{Named, noLine}
+use Rattle.walk_roots.specs.Tables.{RegionsNamed, noLine}
 
 pub refer-below : (F : Func) → referencesHold F ≡ true → every (λ r. ltb r (length (F .regions))) (childList F ++ ctrlRegions F) ≡ true
 unfolding referencesHold
@@ -60,7 +60,7 @@ module _ {w : List ℕ} (t : Tables w) (e : every (λ r. ltb r (length (funcOf w
       let p = both (below (ctrlLine F c .0)) (every below (ctrlLine F c .1 .to ++ keys (ctrlLine F c .1 .vals))) (line c h) in
       (p .0, every-split below (ctrlLine F c .1 .to) (keys (ctrlLine F c .1 .vals)) (p .1) .0)
 
-  pub named-from : Named F
+  pub named-from : RegionsNamed F
   named-from = record {
     few = omega (arith, region-total t, t .counts regions (lit< tt));
     child = λ n i h l. ltb-true (getD (childrenOf (nodeOf F n)) i 0) (length (F .regions)) (every-at below (childrenOf (nodeOf F n)) (children n h) i 0 l);
@@ -69,5 +69,5 @@ module _ {w : List ℕ} (t : Tables w) (e : every (λ r. ltb r (length (funcOf w
   }
 
 -- in one step
-pub named-refers : {w : List ℕ} → Tables w → referencesHold (funcOf w) ≡ true → Named (funcOf w)
+pub named-refers : {w : List ℕ} → Tables w → referencesHold (funcOf w) ≡ true → RegionsNamed (funcOf w)
 named-refers {w} t e = named-from t (refer-below (funcOf w) e)

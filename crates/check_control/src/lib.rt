@@ -20,15 +20,15 @@ use work::ROOTS_END;
 ghost use mathlib.Core.Path.{_≡_};
 ghost use Prim.Native.Nat.{_≤_, _<_};
 ghost use lib.ListN.{length, drop};
-ghost use Rattle.laws.specs.Lists.{every, within, distinct, keys};
+ghost use Rattle.general_laws.specs.Lists.{every, within, distinct, keys};
 ghost use Rattle.lifting.specs.Parts.{childList};
 ghost use Rattle.lifting.specs.Control.{isRoot, ctrlFits, controlFits};
 ghost use Rattle.func.specs.Decode.{funcOf};
 ghost use Rattle.func.specs.Tables.{Tables, ctrlLine};
 ghost use Rattle.work.specs.Layout.{childrenAt, tablesEnd, workNeed};
 ghost use Rattle.work.specs.Aside.{Aside};
-ghost use Rattle.walk_roots.specs.Tables.{Named, Indexed, Marked};
-ghost use Rattle.walk_roots.specs.Visit.{listed, Low};
+ghost use Rattle.walk_roots.specs.Tables.{RegionsNamed, Indexed, Marked};
+ghost use Rattle.walk_roots.specs.Visit.{listed, RootsLow};
 ghost use Rattle.check_control.specs.Loops.{targetFits, lineFits, kindTest};
 
 // Region r is no child.
@@ -82,7 +82,7 @@ fn target_fits(func: &[u32], work: &[u32], r: usize) -> bool
 fn targets_fit(func: &[u32], work: &[u32], c: usize) -> bool
     requires { ⌜ Tables (now func) ⌝ }
     requires { ⌜ c < length (funcOf (now func) .ctrls) ⌝ }
-    requires { ⌜ Named (funcOf (now func)) ⌝ }
+    requires { ⌜ RegionsNamed (funcOf (now func)) ⌝ }
     requires { ⌜ Marked childrenAt (childList (funcOf (now func))) (now work) × (tablesEnd ≤ length (now work)) ⌝ }
     ensures { λ x. ⌜ x ≡ every (targetFits (funcOf (now (func .entry)))) (ctrlLine (funcOf (now (func .entry))) c .1 .to) ⌝ }
 {
@@ -169,7 +169,7 @@ fn kind_fits(kind: CtrlKind, ins: usize, to: usize) -> bool
 fn ctrl_fits(func: &[u32], work: &[u32], c: usize) -> bool
     requires { ⌜ Tables (now func) ⌝ }
     requires { ⌜ c < length (funcOf (now func) .ctrls) ⌝ }
-    requires { ⌜ Named (funcOf (now func)) ⌝ }
+    requires { ⌜ RegionsNamed (funcOf (now func)) ⌝ }
     requires { ⌜ Marked childrenAt (childList (funcOf (now func))) (now work) × (tablesEnd ≤ length (now work)) ⌝ }
     ensures { λ x. ⌜ x ≡ ctrlFits (funcOf (now (func .entry))) (ctrlLine (funcOf (now (func .entry))) c .1) ⌝ }
 {
@@ -193,7 +193,7 @@ fn ctrl_fits(func: &[u32], work: &[u32], c: usize) -> bool
 fn line_fits(func: &[u32], work: &[u32], c: usize) -> bool
     requires { ⌜ Tables (now func) ⌝ }
     requires { ⌜ c < length (funcOf (now func) .ctrls) ⌝ }
-    requires { ⌜ Named (funcOf (now func)) ⌝ }
+    requires { ⌜ RegionsNamed (funcOf (now func)) ⌝ }
     requires { ⌜ Marked childrenAt (childList (funcOf (now func))) (now work) × (tablesEnd ≤ length (now work)) ⌝ }
     ensures { λ x. ⌜ x ≡ lineFits (funcOf (now (func .entry))) (ctrlLine (funcOf (now (func .entry))) c) ⌝ }
 {
@@ -207,7 +207,7 @@ fn line_fits(func: &[u32], work: &[u32], c: usize) -> bool
 // Each line does.
 fn lines_fit(func: &[u32], work: &[u32]) -> bool
     requires { ⌜ Tables (now func) ⌝ }
-    requires { ⌜ Named (funcOf (now func)) ⌝ }
+    requires { ⌜ RegionsNamed (funcOf (now func)) ⌝ }
     requires { ⌜ Marked childrenAt (childList (funcOf (now func))) (now work) × (tablesEnd ≤ length (now work)) ⌝ }
     ensures { λ x. ⌜ x ≡ every (lineFits (funcOf (now (func .entry)))) (funcOf (now (func .entry)) .ctrls) ⌝ }
 {
@@ -225,7 +225,7 @@ fn lines_fit(func: &[u32], work: &[u32]) -> bool
 // Each of the n roots at the end of their table has a ctrl line.
 fn have_ctrls(func: &[u32], work: &[u32], n: usize) -> bool
     requires { ⌜ Indexed (funcOf (now func)) (now work) ⌝ }
-    requires { ⌜ Low (funcOf (now func)) (now work) n × (length (funcOf (now func) .regions) ≤ 128) ⌝ }
+    requires { ⌜ RootsLow (funcOf (now func)) (now work) n × (length (funcOf (now func) .regions) ≤ 128) ⌝ }
     requires { ⌜ (n ≤ 128) × (tablesEnd ≤ length (now work)) ⌝ }
     ensures { λ x. ⌜ x ≡ every (λ r. within r (keys (funcOf (now (func .entry)) .ctrls))) (listed (now (work .entry)) n) ⌝ }
 {
@@ -244,7 +244,7 @@ fn have_ctrls(func: &[u32], work: &[u32], n: usize) -> bool
 // The text in the function slice passes refusal 7. Only the tables of the control-flow walk are written.
 pub fn control(func: &[u32], work: &mut [u32]) -> bool
     requires { ⌜ Tables (now func) ⌝ }
-    requires { ⌜ Named (funcOf (now func)) ⌝ }
+    requires { ⌜ RegionsNamed (funcOf (now func)) ⌝ }
     requires { ⌜ workNeed ≤ length (now work) ⌝ }
     ensures { λ r. ⌜ (r ≡ controlFits (funcOf (now (func .entry)))) × (length (now (work .exit)) ≡ length (now (work .entry))) × Aside 0 tablesEnd (now (work .entry)) (now (work .exit)) ⌝ }
 {

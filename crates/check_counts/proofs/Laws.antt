@@ -6,7 +6,7 @@ use Prim.Native.Nat.{ℕ, suc, _+_, _-_, _/_, _≤_, _<_}
 use native.Mathlib.Omega.{arith}
 use lib.Dec.{eqb, leb, ltb, lit<}
 use borrow.Author.Tests.{eq-eqb, ne-eqb, lt-ltb, le-ltb}
-use Rattle.laws.specs.Lists.{tabulate, below, every}
+use Rattle.general_laws.specs.Lists.{tabulate, below, every}
 use Rattle.func.specs.Layout.{params, nodeRefs, childRefs, regions, nodes, ctrls}
 use Rattle.func.specs.Store.{count}
 use Rattle.func.specs.Tables.{Within, word}

@@ -6,7 +6,7 @@ use mathlib.Core.List.{List, [], _∷_}
 use Prim.Native.Nat.{ℕ, suc, _+_, _<_}
 use native.Mathlib.Omega.{arith}
 use lib.ListN.{length, getD}
-use Rattle.laws.specs.Lists.{tabulate, every}
+use Rattle.general_laws.specs.Lists.{tabulate, every}
 
 pub every-numbered : {A : Type 0} (p : ℕ → Bool) (q : A → Bool) (d : A) (xs : List A) (a : ℕ) → ((i j : ℕ) → i < length xs → j ≡ a + i → p j ≡ q (getD xs i d))
     → every p (tabulate (λ i. i) a (length xs)) ≡ every q xs

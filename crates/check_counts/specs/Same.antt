@@ -9,9 +9,9 @@ use native.Mathlib.Omega.{arith}
 use lib.Dec.{eqb, leb, ltb, lit<}
 use lib.ListN.{length, getD, List·getD-map}
 use borrow.Author.Tests.{eqb-true, eqb-false, eq-eqb, ne-eqb, leb-true, ltb-true}
-use Rattle.laws.specs.Every.{every-at, every-parts, every-split}
+use Rattle.general_laws.specs.Every.{every-at, every-parts, every-split}
 use Rattle.lifting_runs.specs.StandsOnce.{stands-once}
-use Rattle.laws.specs.Lists.{below, every, within, distinct}
+use Rattle.general_laws.specs.Lists.{below, every, within, distinct}
 use Rattle.lifting.specs.Ast.{boolCond, spvInst, Node, block, select, loop, exit, Region, ControlInst, Func}
 use Rattle.lifting.specs.Parts.{regionOf, nodeOf, childrenOf, outsOf, nodeValues, nodeList, opList, childList, ctrlRegions, requiredIds, insts}
 use Rattle.lifting.specs.Parts as text
@@ -26,7 +26,7 @@ use Rattle.func.specs.Decode.{numberOf}
 use Rattle.func.specs.Whole.{collections, sizes}
 use Rattle.func.specs.Tables.{Listed, word, list-count, item-is}
 use Rattle.func.specs.Stored.{Stored, region-nodes, ins-count, results-count, node-kind, values-count, node-children, outs-count, unsingle}
-use Rattle.laws.specs.Tests.{every-all, both}
+use Rattle.general_laws.specs.Tests.{every-all, both}
 use Rattle.func_fits.specs.Fewer.{fewer-below, fits}
 use Rattle.check_counts.specs.Numbered.{every-numbered}
 use Rattle.check_counts.specs.Test.{insIn, resultsIn, valuesIn, childrenIn, outsIn, childIn, nodeIn, endsAt, endsTest, caseTest, bodyTest, casesTest, kindTest, nodeTest, nodesTest, resultsTest, funcTest, countsTest, CountsSafe}

@@ -8,7 +8,7 @@ use mathlib.Core.List.{List}
 use Prim.Native.Nat.{ℕ, zero, suc, _+_, _/_, _%_, _≤_, _<_}
 use lib.Dec.{eqb, leb, ltb}
 use lib.ListN.{length}
-use Rattle.laws.specs.Lists.{below, every}
+use Rattle.general_laws.specs.Lists.{below, every}
 use Rattle.func.specs.Layout.{funcNeed, params, nodeRefs, childRefs, regions, nodes, ctrls, entryRoom}
 use Rattle.func.specs.Store.{count}
 use Rattle.func.specs.Tables.{word}

@@ -17,5 +17,5 @@ line-as F first i e h = h ∙ ap (λ (l : Lines). lineBelow F first l i) (sym e)
 pub stops : {x a : Bool} (rest : Bool) → x ≡ a → x ≡ false → false ≡ (a && rest)
 stops rest e q = ap (λ (b : Bool). b && rest) (sym q ∙ e)
 
-pub goes-on : {x a b rest : Bool} → x ≡ a → x ≡ true → b ≡ rest → b ≡ (a && rest)
-goes-on {rest = rest} e q h = h ∙ ap (λ (b : Bool). b && rest) (sym q ∙ e)
+pub line-goes-on : {x a b rest : Bool} → x ≡ a → x ≡ true → b ≡ rest → b ≡ (a && rest)
+line-goes-on {rest = rest} e q h = h ∙ ap (λ (b : Bool). b && rest) (sym q ∙ e)

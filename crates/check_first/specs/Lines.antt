@@ -8,14 +8,14 @@ use Prim.Native.Nat.{ℕ, _<_}
 use native.Mathlib.Omega.{arith}
 use lib.Dec.{ltb}
 use lib.ListN.{length}
-use Rattle.laws.specs.Lists.{every, below, gather}
+use Rattle.general_laws.specs.Lists.{every, below, gather}
 use Rattle.lifting.specs.Ast.{DataInstKind, inst, call, ext, Op, Decl, block, Func}
 use Rattle.lifting.specs.Parts.{constOf, regionOf, nodeOf, opOf, outsOf, calleeIds, decls, requiredIds, ids}
 use Rattle.func.specs.declared.OpKind.{OpKind}
 use Rattle.func.specs.declared.OpKind.the-variants.{Inst, Call, Ext}
 use Rattle.func.specs.Tables.{paramOf}
 use Rattle.func.specs.Kinds.{opKind, constFrom, declFrom}
-use Rattle.laws.specs.Every.{every-append, every-gather, every-map, every-both, every-same}
+use Rattle.general_laws.specs.Every.{every-append, every-gather, every-map, every-both, every-same}
 use Rattle.check_counts.specs.Numbered.{every-numbered}
 use Rattle.check_first.specs.declared.Lines.{Lines}
 use Rattle.check_first.specs.declared.Lines.the-variants.{Consts, Params, Regions, Nodes, Ops}

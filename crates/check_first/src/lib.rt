@@ -21,7 +21,7 @@ ghost use mathlib.Core.Bool.{_&&_};
 ghost use Prim.Native.Nat.{_<_};
 ghost use lib.Dec.{ltb};
 ghost use lib.ListN.{length, getD};
-ghost use Rattle.laws.specs.Lists.{every};
+ghost use Rattle.general_laws.specs.Lists.{every};
 ghost use Rattle.lifting.specs.Parts.{ids};
 ghost use Rattle.func.specs.Decode.{funcOf};
 ghost use Rattle.func.specs.Tables.{Tables};

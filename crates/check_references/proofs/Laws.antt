@@ -10,7 +10,7 @@ use lib.ListN.{length, getD, length-map, List·getD-map}
 use borrow.Author.Tests.{lt-ltb, le-ltb, eq-eqb, ne-eqb}
 use Rattle.func.specs.declared.Val.{Val}
 use Rattle.opcodes.specs.Table.{among}
-use Rattle.laws.specs.Lists.{choose, within}
+use Rattle.general_laws.specs.Lists.{choose, within}
 use Rattle.func.specs.Layout.{funcNeed, poolTotal, consts, entryRoom}
 use Rattle.func.specs.Store.{count, view}
 use Rattle.func.specs.Decode.{numberOf}
@@ -19,7 +19,7 @@ use Rattle.func.specs.Tables.{Within, word, whole-pool}
 use Rattle.check_references.specs.declared.Rule.{Rule}
 use Rattle.check_references.specs.declared.Rule.the-variants.{Named, ConstId, ParamType, DeclType, Callee, ConstOpcode, ImmFits, NodeControl, NodeInst, OpInst}
 use Rattle.check_references.specs.Test.{namedTest, calleeTest, opInstTest, poolFor, ruleTest, constIds}
-use Rattle.check_references.specs.Limits.{Ready}
+use Rattle.check_references.specs.Limits.{LimitsReady}
 
 -- a line that may be read, by a copy m of its number r, and n, how many there are
 pub row-in : {k : ℕ} {w : List ℕ} {m r n : ℕ} → funcNeed ≤ length w → k < poolTotal → count k w ≤ entryRoom k → n ≡ count k w → m ≡ r → r < n → Within k w m
@@ -67,14 +67,14 @@ pool-below NodeControl = lit< tt
 pool-below NodeInst = lit< tt
 pool-below OpInst = lit< tt
 
-pub rule-in : {w : List ℕ} {i : ℕ} {a x : Rule} → Ready w → a ≡ x → i < count (poolFor a) w → Within (poolFor x) w i
+pub rule-in : {w : List ℕ} {i : ℕ} {a x : Rule} → LimitsReady w → a ≡ x → i < count (poolFor a) w → Within (poolFor x) w i
 rule-in {w} {i} {x = x} r e h = record { size = r .size; pool = pool-below x; fits = r .fits x; below = subst (λ (r : Rule). i < count (poolFor r) w) e h }
 
-pub rule-length : {w : List ℕ} → Ready w → (r : Rule) → length (view (poolFor r) w) ≡ count (poolFor r) w
+pub rule-length : {w : List ℕ} → LimitsReady w → (r : Rule) → length (view (poolFor r) w) ≡ count (poolFor r) w
 rule-length {w} r x = whole-pool (poolFor x) w (r .fits x)
 
 -- const ids
-pub ids-length : {w : List ℕ} → Ready w → length (constIds w) ≡ count consts w
+pub ids-length : {w : List ℕ} → LimitsReady w → length (constIds w) ≡ count consts w
 ids-length {w} r = length-map (view consts w) numberOf ∙ rule-length r ConstId
 
 pub id-at : (w : List ℕ) (i : ℕ) → word consts w i 0 ≡ getD (constIds w) i 0

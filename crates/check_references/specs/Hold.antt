@@ -9,7 +9,7 @@ use native.Mathlib.Omega.{arith}
 use lib.Dec.{leb, ltb, eqb, lit<}
 use lib.ListN.{length, getD, List·getD-eq-default}
 use borrow.Author.Tests.{ltb-true, ltb-false, lt-ltb, le-ltb, eqb-true, eqb-false, eq-eqb, ne-eqb}
-use Rattle.laws.specs.Lists.{every, gather, keys, distinct}
+use Rattle.general_laws.specs.Lists.{every, gather, keys, distinct}
 use Rattle.lifting.specs.Limits.{maxOpcode, maxControl, withinLimits}
 use Rattle.lifting.specs.Ast.{Value, const, regionInput, nodeOutput, dataInstOutput, Inst, DataInstKind, inst, call, ext, Op, boolCond, spvInst, Node, block, select, loop, exit, Region, ControlInst, Func}
 use Rattle.lifting.specs.Parts.{outsOf, nodeInsts, opInsts, ctrlInsts, calleeIds}
@@ -26,10 +26,10 @@ use Rattle.func.specs.Tables.{word}
 use Rattle.func.specs.Stored.{Stored, ins-count, outs-count, op-type}
 use Rattle.check_references.specs.declared.Rule.{Rule}
 use Rattle.check_references.specs.declared.Rule.the-variants.{Named, ConstId, ParamType, DeclType, Callee, ConstOpcode, ImmFits, NodeControl, NodeInst, OpInst}
-use Rattle.laws.specs.Every.{every-append, every-gather, every-map, every-keys, every-same, every-both}
+use Rattle.general_laws.specs.Every.{every-append, every-gather, every-map, every-keys, every-same, every-both}
 use Rattle.check_references.specs.Largest.{every-each, below-largest}
 use Rattle.check_references.specs.Test.{poolFor, opcodeFits, namedTest, calleeTest, opInstTest, allTest, ruleTest, belowTest, regionsTest, idsTest, distinctTest, instsTest, referencesTest}
-use Rattle.check_references.specs.Limits.{limits-test, Ready, ready}
+use Rattle.check_references.specs.Limits.{limits-test, LimitsReady, ready}
 
 -- The numbers that name lines. A count stops above the room, and is 0 exactly if the size is.
 capped-zero : (n m : ℕ) → eqb (min n (m + 1)) 0 ≡ eqb n 0
@@ -79,7 +79,7 @@ op-callee (call f) = sym (and-true (ltb 0 f))
 op-callee (ext s n) = sym (and-true (ltb 0 s))
 
 module _ {F : Func} {w : List ℕ} (s : Stored F w) (limits : withinLimits F ≡ true) where
-  fit : Ready w
+  fit : LimitsReady w
   fit = ready w (s .size) (limits-test F w s ∙ limits)
 
   total : (k : ℕ) → k < poolTotal → count k w ≤ entryRoom k → count k w ≡ getD (sizes F) k 0

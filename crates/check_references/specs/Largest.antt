@@ -7,7 +7,7 @@ use native.Mathlib.Omega.{arith}
 use lib.Dec.{ltb, eqb, eqb·suc-zero}
 use lib.ListN.{length}
 use borrow.Author.Tests.{ltb-true, ltb-false, lt-ltb, le-ltb}
-use Rattle.laws.specs.Lists.{every}
+use Rattle.general_laws.specs.Lists.{every}
 use Rattle.func.specs.Adds.{largest}
 use Rattle.func.specs.Lines.{Each, none, more}
 use Rattle.func.specs.Keep.{single}

@@ -9,7 +9,7 @@ use native.Mathlib.Omega.{arith}
 use lib.Dec.{leb, lit<}
 use lib.ListN.{length, getD}
 use borrow.Author.Tests.{leb-true, leb-false, le-leb, lt-leb}
-use Rattle.laws.specs.Tests.{both}
+use Rattle.general_laws.specs.Tests.{both}
 use Rattle.lifting.specs.Limits.{withinLimits}
 use Rattle.lifting.specs.Ast.{Func}
 use Rattle.func.specs.Layout.{funcNeed, poolTotal, consts, params, decls, values, imms, targets, regions, nodes, ops, entryRoom}
@@ -46,12 +46,12 @@ limits-test F w s =
     && size-fits s targets (lit< tt) i
 
 -- Words of which each pool that a rule reads, and that of the regions, is within its room.
-pub record Ready (w : List ℕ) : Type 0 where
+pub record LimitsReady (w : List ℕ) : Type 0 where
   pub size : funcNeed ≤ length w
   pub fits : (r : Rule) → count (poolFor r) w ≤ entryRoom (poolFor r)
   pub regions : count regions w ≤ entryRoom regions
 
-pub ready : (w : List ℕ) → funcNeed ≤ length w → limitsTest w ≡ true → Ready w
+pub ready : (w : List ℕ) → funcNeed ≤ length w → limitsTest w ≡ true → LimitsReady w
 unfolding limitsTest
 ready w s e =
     let h = both _ _ e in

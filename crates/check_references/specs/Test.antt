@@ -8,7 +8,7 @@ use native.Mathlib.Decide.{ℕ-discrete}
 use lib.Dec.{leb, ltb, eqb}
 use lib.ListN.{getD}
 use Rattle.opcodes.specs.Table.{table}
-use Rattle.laws.specs.Lists.{every, within, distinct}
+use Rattle.general_laws.specs.Lists.{every, within, distinct}
 use Rattle.lifting.specs.Limits.{maxRegions, maxNodes, maxOps, maxConsts, maxParams, maxValues, maxDecls, maxImmediates, maxTargets, maxOpcode, maxControl}
 use Rattle.lifting.specs.Ast.{Value, const, regionInput, nodeOutput, dataInstOutput}
 use Rattle.lifting.specs.References.{immFits}

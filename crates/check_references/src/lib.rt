@@ -37,7 +37,7 @@ ghost use lib.ListN.{length};
 ghost use Rattle.func.specs.Layout.{funcNeed, poolTotal};
 ghost use Rattle.func.specs.Store.{count};
 ghost use Rattle.check_references.specs.Test.{limitsTest, belowTest, regionsTest, idsTest, instsTest, referencesTest};
-ghost use Rattle.check_references.specs.Limits.{Ready};
+ghost use Rattle.check_references.specs.Limits.{LimitsReady};
 
 pub mod rules;
 
@@ -112,7 +112,7 @@ fn regions_below(func: &[u32]) -> bool
 
 // No id is 0 that must not be.
 fn ids_given(func: &[u32]) -> bool
-    requires { ⌜ Ready (now func) ⌝ }
+    requires { ⌜ LimitsReady (now func) ⌝ }
     ensures { λ r. ⌜ r ≡ idsTest (now (func .entry)) ⌝ }
 {
     let a = 0 < head_ret(func);
@@ -126,7 +126,7 @@ fn ids_given(func: &[u32]) -> bool
 
 // Immediates and the opcodes of nodes' and ops' INSTs fit.
 fn insts_fit(func: &[u32]) -> bool
-    requires { ⌜ Ready (now func) ⌝ }
+    requires { ⌜ LimitsReady (now func) ⌝ }
     ensures { λ r. ⌜ r ≡ instsTest (now (func .entry)) ⌝ }
 {
     let a = all_hold(func, Rule::ImmFits);

@@ -34,14 +34,14 @@ ghost use mathlib.Core.Bool.{false, _&&_};
 ghost use mathlib.Core.List.{[]};
 ghost use Prim.Native.Nat.{_+_, _<_};
 ghost use lib.ListN.{getD, drop};
-ghost use Rattle.laws.specs.Lists.{within};
+ghost use Rattle.general_laws.specs.Lists.{within};
 ghost use Rattle.lifting.specs.Ast.{regionInput, nodeOutput, dataInstOutput};
 ghost use Rattle.lifting.specs.References.{immFits};
 ghost use Rattle.func.specs.Layout.{consts};
 ghost use Rattle.func.specs.Store.{count, view};
 ghost use Rattle.func.specs.Kinds.{asImm, asValue};
 ghost use Rattle.check_references.specs.Test.{opcodeFits, namedTest, calleeTest, opInstTest, poolFor, ruleTest, allTest, constIds, distinctTest};
-ghost use Rattle.check_references.specs.Limits.{Ready};
+ghost use Rattle.check_references.specs.Limits.{LimitsReady};
 
 // Both of two.
 pub fn both(a: bool, b: bool) -> bool
@@ -59,7 +59,7 @@ pub fn opcode_fits(n: u32) -> bool
 
 // A value that is an input, an output or a result names one.
 fn input_named(func: &[u32], r: u32, i: u32) -> bool
-    requires { ⌜ Ready (now func) ⌝ }
+    requires { ⌜ LimitsReady (now func) ⌝ }
     ensures { λ x. ⌜ x ≡ namedTest (now (func .entry)) (regionInput r i) ⌝ }
 {
     if r < count(func, REGIONS) {
@@ -69,7 +69,7 @@ fn input_named(func: &[u32], r: u32, i: u32) -> bool
 }
 
 fn output_named(func: &[u32], n: u32, i: u32) -> bool
-    requires { ⌜ Ready (now func) ⌝ }
+    requires { ⌜ LimitsReady (now func) ⌝ }
     ensures { λ x. ⌜ x ≡ namedTest (now (func .entry)) (nodeOutput n i) ⌝ }
 {
     if n < count(func, NODES) {
@@ -79,7 +79,7 @@ fn output_named(func: &[u32], n: u32, i: u32) -> bool
 }
 
 fn result_named(func: &[u32], o: u32) -> bool
-    requires { ⌜ Ready (now func) ⌝ }
+    requires { ⌜ LimitsReady (now func) ⌝ }
     ensures { λ x. ⌜ x ≡ namedTest (now (func .entry)) (dataInstOutput o) ⌝ }
 {
     if o < count(func, OPS) {
@@ -90,7 +90,7 @@ fn result_named(func: &[u32], o: u32) -> bool
 
 // A value names something.
 fn named(func: &[u32], v: Val) -> bool
-    requires { ⌜ Ready (now func) ⌝ }
+    requires { ⌜ LimitsReady (now func) ⌝ }
     ensures { λ x. ⌜ x ≡ namedTest (now (func .entry)) (asValue v) ⌝ }
 {
     match v {
@@ -150,7 +150,7 @@ fn pool_for(rule: Rule) -> usize
 
 // A rule holds of entry i of its pool.
 fn holds(func: &[u32], rule: Rule, i: usize) -> bool
-    requires { ⌜ Ready (now func) ⌝ }
+    requires { ⌜ LimitsReady (now func) ⌝ }
     requires { ⌜ i < count (poolFor rule) (now func) ⌝ }
     ensures { λ r. ⌜ r ≡ ruleTest (now (func .entry)) rule (getD (view (poolFor rule) (now (func .entry))) i []) ⌝ }
 {
@@ -170,7 +170,7 @@ fn holds(func: &[u32], rule: Rule, i: usize) -> bool
 
 // A rule holds of every entry of its pool.
 pub fn all_hold(func: &[u32], rule: Rule) -> bool
-    requires { ⌜ Ready (now func) ⌝ }
+    requires { ⌜ LimitsReady (now func) ⌝ }
     ensures { λ r. ⌜ r ≡ allTest (now (func .entry)) rule ⌝ }
 {
     let n = wide(count(func, pool_for(rule)));
@@ -186,7 +186,7 @@ pub fn all_hold(func: &[u32], rule: Rule) -> bool
 
 // The id of constant i is that of a later one too.
 fn repeats(func: &[u32], i: usize) -> bool
-    requires { ⌜ Ready (now func) ⌝ }
+    requires { ⌜ LimitsReady (now func) ⌝ }
     requires { ⌜ i < count consts (now func) ⌝ }
     ensures { λ r. ⌜ r ≡ within (getD (constIds (now (func .entry))) i 0) (drop (i + 1) (constIds (now (func .entry)))) ⌝ }
 {
@@ -204,7 +204,7 @@ fn repeats(func: &[u32], i: usize) -> bool
 
 // The same, by constant i's mark: where that is not set, no later id is the same.
 fn met(func: &[u32], i: usize, marked: bool) -> bool
-    requires { ⌜ Ready (now func) ⌝ }
+    requires { ⌜ LimitsReady (now func) ⌝ }
     requires { ⌜ i < count consts (now func) ⌝ }
     requires { ⌜ (marked ≡ false → within (getD (constIds (now func)) i 0) (drop (i + 1) (constIds (now func))) ≡ false) ⌝ }
     ensures { λ r. ⌜ r ≡ within (getD (constIds (now (func .entry))) i 0) (drop (i + 1) (constIds (now (func .entry)))) ⌝ }
@@ -220,7 +220,7 @@ const MARKS: usize = 2039;
 
 // No const id repeats. From the last one back, each id is marked, and only one whose mark was set before is compared with those behind it.
 pub fn consts_distinct(func: &[u32]) -> bool
-    requires { ⌜ Ready (now func) ⌝ }
+    requires { ⌜ LimitsReady (now func) ⌝ }
     ensures { λ r. ⌜ r ≡ distinctTest (now (func .entry)) ⌝ }
 {
     let mut marks = [false; 2039];

@@ -11,15 +11,15 @@ use native.Mathlib.Omega.{arith}
 use lib.Dec.{eqb}
 use lib.ListN.{length, getD}
 use borrow.Author.Tests.{eq-eqb, ne-eqb, eqb-true}
-use Rattle.laws.specs.Lists.{choose, distinct}
+use Rattle.general_laws.specs.Lists.{choose, distinct}
 use Rattle.lifting.specs.Ast.{boolCond, spvInst, ControlInstKind, unreachable, return, branch, selectBranch, exitInvocation, ControlInst, Func}
 use Rattle.lifting.specs.Control.{boolDistinct, kindFits, controlFits}
 use Rattle.func.specs.declared.CtrlKind.{CtrlKind}
 use Rattle.func.specs.declared.CtrlKind.the-variants.{Unreachable, Return, Branch, Bool as BoolCtrl, Inst as InstCtrl, Exit as ExitCtrl}
 use Rattle.func.specs.Kinds.{ctrlKind}
 use Rattle.walk_roots.specs.Tables.{noLine}
-use Rattle.laws.specs.Members.{all-right}
-use Rattle.laws.specs.Tests.{all-at, both}
+use Rattle.general_laws.specs.Members.{all-right}
+use Rattle.general_laws.specs.Tests.{all-at, both}
 use Rattle.lifting_runs.specs.Fits.{line-tests}
 
 -- a `bool` ctrl; a line whose counts fit its kind; one that does not name one target twice by `bool`

@@ -9,8 +9,8 @@ use Prim.Native.Nat.{ℕ}
 use native.Mathlib.Omega.{arith}
 use lib.Dec.{leb, lit<}
 use borrow.Author.Tests.{leb-true, le-leb}
-use Rattle.laws.specs.Tests.{both}
-use Rattle.laws.specs.Lists.{every, gather}
+use Rattle.general_laws.specs.Tests.{both}
+use Rattle.general_laws.specs.Lists.{every, gather}
 use Rattle.lifting.specs.Ast.{Func}
 use Rattle.lifting.specs.Parts.{ctrlInsts}
 use Rattle.lifting.specs.Limits.{maxRegions, maxTargets, withinLimits}
@@ -28,7 +28,7 @@ use Rattle.func.specs.Keep.{keepFunc}
 use Rattle.func.specs.Whole.{Clear}
 use Rattle.func.specs.Stored.{Stored, stored-func}
 use Rattle.func.specs.Decode.{funcOf}
-use Rattle.func.specs.Back.{Fits, func-back}
+use Rattle.func.specs.Back.{RowFits, func-back}
 use Rattle.func.specs.Tables.{Tables, tables-func}
 use Rattle.func_fits.specs.Parsed.{Few, fits-few, few-control}
 use Rattle.check_references.specs.Test.{limitsTest, opcodeFits, referencesTest}
@@ -37,7 +37,7 @@ use Rattle.check_references.specs.Hold.{references-test}
 use Rattle.check_tree.specs.Test.{treeTest}
 use Rattle.check_tree.specs.Same.{tree-safe, tree-test}
 use Rattle.check_counts.specs.Same.{counts-safe, counts-test}
-use Rattle.walk_roots.specs.Tables.{Named}
+use Rattle.walk_roots.specs.Tables.{RegionsNamed}
 use Rattle.check_control.specs.Meets.{named-refers}
 use Rattle.check_text.specs.declared.Parsed.{Parsed}
 use Rattle.check_text.specs.declared.Parsed.the-variants.{Function, Refused}
@@ -125,7 +125,7 @@ few-back {F} {w} s f =
 
 -- a text that passes 3 to 5: where it has few ctrl lines and entries, all of it stands in the words
 module _ (F : Func) {z : List ℕ} (clear : Clear z) (limits : withinLimits F ≡ true) (references : referencesHold F ≡ true) (tree : isTree F ≡ true) where
-  whole : Few F → Fits F
+  whole : Few F → RowFits F
   whole few = fits-few F limits references tree few
 
   func-is : Few F → funcOf (keepFunc F z) ≡ F
@@ -134,7 +134,7 @@ module _ (F : Func) {z : List ℕ} (clear : Clear z) (limits : withinLimits F �
   tables-are : Few F → Tables (keepFunc F z)
   tables-are few = tables-func F clear (whole few)
 
-  named-are : Few F → Named (funcOf (keepFunc F z))
+  named-are : Few F → RegionsNamed (funcOf (keepFunc F z))
   named-are few = named-refers (tables-are few) (subst (λ (G : Func). referencesHold G ≡ true) (sym (func-is few)) references)
 
   -- a text with more of them fails refusal 7
@@ -187,7 +187,7 @@ pub record Stands (F : Func) (w : List ℕ) : Type 0 where
   pub passes : Passes F
   pub func : funcOf w ≡ F
   pub tables : Tables w
-  pub named : Named (funcOf w)
+  pub named : RegionsNamed (funcOf w)
 
 pub back : (F : Func) {z : List ℕ} → Clear z → checked F ≡ parsed F → Stands F (keepFunc F z)
 back F clear e =

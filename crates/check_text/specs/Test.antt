@@ -18,7 +18,7 @@ use Rattle.func.specs.Tables.{Tables}
 use Rattle.check_references.specs.Test.{limitsTest, referencesTest}
 use Rattle.check_tree.specs.Test.{treeTest, TreeSafe}
 use Rattle.check_counts.specs.Test.{countsTest, CountsSafe}
-use Rattle.walk_roots.specs.Tables.{Named}
+use Rattle.walk_roots.specs.Tables.{RegionsNamed}
 use Rattle.check_text.specs.declared.Parsed.{Parsed}
 use Rattle.check_text.specs.declared.Parsed.the-variants.{Function, Refused}
 
@@ -48,4 +48,4 @@ pub record ChecksSafe (w : List ℕ) (opcodes : Bool) : Type 0 where
   pub tree : limitsTest w ≡ true → (referencesTest w && opcodes) ≡ true → TreeSafe w
   pub counts : limitsTest w ≡ true → (referencesTest w && opcodes) ≡ true → treeTest w ≡ true → CountsSafe w
   pub tables : limitsTest w ≡ true → (referencesTest w && opcodes) ≡ true → treeTest w ≡ true → fewTest w ≡ true → Tables w
-  pub named : limitsTest w ≡ true → (referencesTest w && opcodes) ≡ true → treeTest w ≡ true → fewTest w ≡ true → Named (funcOf w)
+  pub named : limitsTest w ≡ true → (referencesTest w && opcodes) ≡ true → treeTest w ≡ true → fewTest w ≡ true → RegionsNamed (funcOf w)

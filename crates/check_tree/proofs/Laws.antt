@@ -8,8 +8,8 @@ use native.Mathlib.Omega.{arith}
 use lib.Dec.{eqb, lit<}
 use lib.ListN.{length, getD, set, length-set}
 use borrow.Author.Tests.{eqb-true, eqb-false, eq-eqb, ne-eqb, lt-ltb}
-use Rattle.laws.specs.Tests.{both}
-use Rattle.laws.specs.Lists.{tabulate, below, gather, distinct}
+use Rattle.general_laws.specs.Tests.{both}
+use Rattle.general_laws.specs.Lists.{tabulate, below, gather, distinct}
 use Rattle.func.specs.Layout.{funcNeed, poolTotal, entryWords, entryRoom, nodeRefs, opRefs, childRefs, regions, nodes, ops, ctrls}
 use Rattle.func.specs.Store.{count}
 use Rattle.func.specs.Tables.{Within, word}

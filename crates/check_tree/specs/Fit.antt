@@ -10,8 +10,8 @@ use native.Mathlib.Omega.{arith}
 use lib.Dec.{eqb, ltb}
 use lib.ListN.{length}
 use borrow.Author.Tests.{eqb-true, eq-eqb, ne-eqb, ltb-true, ltb-false, lt-ltb, le-ltb}
-use Rattle.laws.specs.Tests.{both}
-use Rattle.laws.specs.Lists.{within, distinct}
+use Rattle.general_laws.specs.Tests.{both}
+use Rattle.general_laws.specs.Lists.{within, distinct}
 use Rattle.lifting.specs.Ast.{ControlInst}
 use Rattle.lifting.specs.Tree.{rootsHaveWaysOut}
 use Rattle.check_tree.specs.Once.{Below, split, fits, roots, roots-back}

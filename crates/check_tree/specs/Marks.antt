@@ -15,7 +15,7 @@ use lib.Dec.{eqb}
 use lib.ListN.{length, getD, set, length-set}
 use lib.Seq.{getD-set-same, getD-set-other}
 use borrow.Author.Tests.{eq-eqb, ne-eqb}
-use Rattle.laws.specs.Lists.{choose-yes, choose-no, tabulate, every, within, distinct}
+use Rattle.general_laws.specs.Lists.{choose-yes, choose-no, tabulate, every, within, distinct}
 use Rattle.func.specs.Tables.{Within, word}
 use Rattle.func.specs.Layout.{entryWords}
 use Rattle.check_tree.specs.Once.{Below, below-parts, split, within-same, within-other}

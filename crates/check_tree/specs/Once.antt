@@ -13,8 +13,8 @@ use native.Mathlib.Omega.{arith}
 use lib.Dec.{eqb, ltb}
 use lib.ListN.{length}
 use borrow.Author.Tests.{ltb-true, ltb-false, eqb-true, eq-eqb, not-true}
-use Rattle.laws.specs.Tests.{both}
-use Rattle.laws.specs.Lists.{choose-yes, choose-no, tabulate, every, within, times, distinct}
+use Rattle.general_laws.specs.Tests.{both}
+use Rattle.general_laws.specs.Lists.{choose-yes, choose-no, tabulate, every, within, times, distinct}
 use Rattle.lifting.specs.Tree.{standsOnce}
 
 -- all numbers of the list are below n

@@ -12,15 +12,15 @@ use native.Mathlib.Omega.{arith}
 use lib.Dec.{eqb, leb, ltb, lit<}
 use lib.ListN.{length, getD, List·getD-map, List·getD-eq-default}
 use borrow.Author.Tests.{eqb-true, eq-eqb, leb-true, ltb-true, ltb-false}
-use Rattle.laws.specs.Every.{every-at, every-split}
-use Rattle.laws.specs.Tests.{both}
-use Rattle.laws.specs.Lists.{tabulate, below, every, gather, within, distinct}
+use Rattle.general_laws.specs.Every.{every-at, every-split}
+use Rattle.general_laws.specs.Tests.{both}
+use Rattle.general_laws.specs.Lists.{tabulate, below, every, gather, within, distinct}
 use Rattle.lifting.specs.Ast.{Func, block}
 use Rattle.lifting.specs.Parts.{regionOf, nodeOf, childrenOf, values, insts, nodeList, opList, childList, ctrlRegions, requiredIds}
 use Rattle.lifting.specs.Limits.{maxOpcode, withinLimits}
 use Rattle.lifting.specs.References.{named, instFits, controlHolds, referencesHold}
 use Rattle.lifting.specs.Tree.{standsOnce, holds, someIf, parentBelow, parentOf, around, aroundItself, rootsHaveWaysOut, isTree}
-use Rattle.laws.specs.Gather.{gather-same}
+use Rattle.general_laws.specs.Gather.{gather-same}
 use Rattle.func.specs.Layout.{nodeRefs, opRefs, childRefs, regions, nodes, ops, ctrls, entryRoom}
 use Rattle.func.specs.Store.{count, view, length-view}
 use Rattle.func.specs.Keep.{single}

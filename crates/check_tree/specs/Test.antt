@@ -7,7 +7,7 @@ use Prim.Native.Nat.{ℕ, zero, suc, _+_, _/_, _%_, _≤_, _<_}
 use native.Mathlib.Decide.{ℕ-discrete}
 use lib.Dec.{eqb, ltb}
 use lib.ListN.{length}
-use Rattle.laws.specs.Lists.{choose, tabulate, below, every, gather, within, distinct}
+use Rattle.general_laws.specs.Lists.{choose, tabulate, below, every, gather, within, distinct}
 use Rattle.func.specs.Layout.{funcNeed, nodeRefs, opRefs, childRefs, regions, nodes, ops, ctrls, entryRoom}
 use Rattle.func.specs.Store.{count}
 use Rattle.func.specs.Tables.{word}

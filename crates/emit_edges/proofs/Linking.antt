@@ -16,8 +16,8 @@ use Rattle.lifting.specs.Ast.{Func}
 use Rattle.lifting.specs.Points.{CfgPoint, Terminator, regionEntry}
 use Rattle.lifting.specs.Walk.{walkOf}
 use Rattle.func.specs.Decode.{funcOf}
-use Rattle.laws.specs.Members.{All}
-use Rattle.laws.specs.Tests.{all-split}
+use Rattle.general_laws.specs.Members.{All}
+use Rattle.general_laws.specs.Tests.{all-split}
 use Rattle.work.specs.Layout.{statusesAt, absorbsAt, headsAt, originsEnd}
 use Rattle.work.specs.Aside.{Aside}
 use Rattle.lifting_blocks.specs.Flat.{Status, goes, gone, starts}

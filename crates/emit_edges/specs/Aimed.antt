@@ -12,7 +12,7 @@ use native.Mathlib.Omega.{arith}
 use lib.Dec.{leb, ltb}
 use lib.ListN.{getD, length, length-append, length-map}
 use borrow.Author.Tests.{ltb-true}
-use Rattle.laws.specs.Lists.{choose, choose-yes, distinct, every, find, gather, keys, tabulate}
+use Rattle.general_laws.specs.Lists.{choose, choose-yes, distinct, every, find, gather, keys, tabulate}
 use Rattle.lifting.specs.Ast.{ControlInst, Func, Node, Value, block, exit, loop, select}
 use Rattle.lifting.specs.Parts.{childList, ctrlOf, ctrlRegions, insts, nodeOf, regionOf, requiredIds, values}
 use Rattle.lifting.specs.Limits.{maxOpcode}
@@ -24,9 +24,9 @@ use Rattle.func.specs.Whole.{entryList}
 use Rattle.func.specs.Decode.{funcOf}
 use Rattle.func.specs.Tables.{ctrlLine, entryOf}
 use Rattle.func_fits.specs.Parsed.{Few, few-control}
-use Rattle.laws.specs.Members.{All, In, NoDup, all-from, all-in, in-getD, in-nil, in-right}
-use Rattle.laws.specs.Tests.{all-part, all-split, both, every-all}
-use Rattle.lifting_runs.specs.Places.{Visited, at-body, by-ctrl, in-case, in-loop}
+use Rattle.general_laws.specs.Members.{All, In, NoDup, all-from, all-in, in-getD, in-nil, in-right}
+use Rattle.general_laws.specs.Tests.{all-part, all-split, both, every-all}
+use Rattle.lifting_runs.specs.Places.{VisitedAt, at-body, by-ctrl, in-case, in-loop}
 use Rattle.lifting_runs.specs.Shaped.{Shaped}
 use Rattle.check_text.specs.Same.{Stands}
 use Rattle.lifting_blocks.specs.Flat.{noPair}
@@ -171,7 +171,7 @@ module _ (F : Func) where
   few-root (some c) r =
       omega (arith, by-few (rootTerm F (some c) r .vals) (rootTerm F (some c) r .targets), length-map {B = CfgPoint × List Value} (c .vals) (λ e. (regionEntry (e .0), e .1)))
 
-  few-exit : {r : ℕ} {p : Place} → Visited F r p → length (termEdges (exitTerm F r p)) ≤ 1 + entriesAt (F .ctrls) (regionExit r)
+  few-exit : {r : ℕ} {p : Place} → VisitedAt F r p → length (termEdges (exitTerm F r p)) ≤ 1 + entriesAt (F .ctrls) (regionExit r)
   few-exit at-body = few-root (ctrlOf F 0) 0
   few-exit (by-ctrl {s = s} v e i) = few-root (ctrlOf F s) s
   few-exit (in-case {n = n} {c = c} v sf e i) = omega (arith, few-child (nodeOf F n) n (regionOf F c .outs))

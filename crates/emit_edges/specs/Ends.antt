@@ -10,11 +10,11 @@ use mathlib.Core.List.{List, [], _∷_, _++_, map}
 use Prim.Native.Nat.{ℕ, zero, suc, _+_, _-_, _≤_, _<_}
 use native.Mathlib.Omega.{arith}
 use lib.ListN.{getD, length}
-use Rattle.laws.specs.Lists.{choose, gather, tabulate}
+use Rattle.general_laws.specs.Lists.{choose, gather, tabulate}
 use Rattle.lifting.specs.Ast.{Func, Value}
 use Rattle.lifting.specs.Points.{CfgPoint, Terminator, eqPoint, regionEntry}
 use Rattle.lifting.specs.Walk.{walkOf}
-use Rattle.laws.specs.Members.{In, in-cases, in-nil, gather-in, map-in}
+use Rattle.general_laws.specs.Members.{In, in-cases, in-nil, gather-in, map-in}
 use Rattle.lifting_blocks.specs.Flat.{Status, gone, starts, goes}
 use Rattle.walk_points.specs.Numbers.{pointNumber}
 use Rattle.terminators.specs.At.{blockAt, pointAt}

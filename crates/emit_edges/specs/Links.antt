@@ -11,10 +11,10 @@ use native.Mathlib.Decide.{ℕ-discrete}
 use native.Mathlib.Omega.{arith}
 use lib.ListN.{getD, length, length-append, length-set, set}
 use lib.Seq.{getD-set-other, getD-set-same}
-use Rattle.laws.specs.Lists.{choose}
+use Rattle.general_laws.specs.Lists.{choose}
 use Rattle.lifting.specs.Ast.{Func}
 use Rattle.lifting.specs.Points.{CfgPoint, eqPoint}
-use Rattle.laws.specs.Members.{All, In, here, in-right}
+use Rattle.general_laws.specs.Members.{All, In, here, in-right}
 use Rattle.work.specs.Layout.{headsAt, nextsAt, originsAt, originsEnd}
 use Rattle.work.specs.Aside.{Aside, aside-none, aside-set, split}
 use Rattle.walk_points.specs.Numbers.{Small, number-low, point-back, pointNumber, pointOf}

@@ -8,7 +8,7 @@ use mathlib.Core.Option.{Option, none, some}
 use Prim.Native.Nat.{ℕ, zero, suc, _+_, _-_, _<_}
 use native.Mathlib.Omega.{arith}
 use lib.ListN.{getD, length}
-use Rattle.laws.specs.Lists.{choose, choose-no, choose-yes, find, gather, keys, tabulate}
+use Rattle.general_laws.specs.Lists.{choose, choose-no, choose-yes, find, gather, keys, tabulate}
 use Rattle.lifting.specs.Ast.{Func, Value, const}
 use Rattle.lifting.specs.Parts.{nodeOf, valsOr}
 use Rattle.lifting.specs.Control.{controlFits}
@@ -17,11 +17,11 @@ use Rattle.lifting.specs.Walk.{inBlock, walkOf}
 use Rattle.lifting.specs.Absorb.{countIn, kept, useCount}
 use Rattle.lifting.specs.Ids.{idOf, labelOf}
 use Rattle.lifting.specs.Instructions.{ifUsed, pairs}
-use Rattle.laws.specs.Gather.{gather-gather, gather-none}
-use Rattle.laws.specs.Members.{In, NoDup, here, there, in-cases, in-getD, in-nil}
+use Rattle.general_laws.specs.Gather.{gather-gather, gather-none}
+use Rattle.general_laws.specs.Members.{In, NoDup, here, there, in-cases, in-getD, in-nil}
 use Rattle.lifting_runs.specs.AbsorbCount.{in-count}
 use Rattle.lifting_runs.specs.Pairs.{counted-in}
-use Rattle.laws.specs.Tests.{find-in}
+use Rattle.general_laws.specs.Tests.{find-in}
 use Rattle.lifting_runs.specs.Tour.{find-unique, unique-of}
 use Rattle.lifting_runs.specs.Shaped.{Shaped}
 use Rattle.lifting_blocks.specs.Flat.{Status, goes, gone, noPair, part, partAt, starts, upTo}

@@ -13,15 +13,15 @@ use native.Mathlib.Decide.{ℕ-discrete}
 use native.Mathlib.Omega.{arith}
 use lib.Dec.{ltb}
 use lib.ListN.{getD, length}
-use Rattle.laws.specs.Lists.{distinct, every, keys, within}
+use Rattle.general_laws.specs.Lists.{distinct, every, keys, within}
 use Rattle.lifting.specs.Ast.{ControlInst, Func, Node, Value, block, exit, loop, regionInput, select}
 use Rattle.lifting.specs.Parts.{ctrlOf, nodeOf, regionOf}
 use Rattle.lifting.specs.Control.{controlFits, ctrlFits, isRoot, kindFits}
 use Rattle.lifting.specs.Points.{CfgPoint, BlockLifting, Terminator, nodeEntry, nodeExit, regionEntry, straight}
 use Rattle.lifting.specs.Walk.{Place, always, childTerm, exitTerm, inBlock, loopTerm, rootTerm, someVals, walkOf}
-use Rattle.laws.specs.Members.{In, NoDup, here, there, in-cases, in-map, in-nil, in-within, map-in, nodup-map, length-tabulate}
-use Rattle.laws.specs.Tests.{both, distinct-once, every-in, find-in}
-use Rattle.lifting_runs.specs.Places.{Visited, at-body, by-ctrl, in-case, in-loop}
+use Rattle.general_laws.specs.Members.{In, NoDup, here, there, in-cases, in-map, in-nil, in-within, map-in, nodup-map, length-tabulate}
+use Rattle.general_laws.specs.Tests.{both, distinct-once, every-in, find-in}
+use Rattle.lifting_runs.specs.Places.{VisitedAt, at-body, by-ctrl, in-case, in-loop}
 use Rattle.lifting_runs.specs.Shaped.{Shaped}
 use Rattle.lifting_blocks.specs.Steps.{Step, step-entry, step-exit, step-in, step-out}
 use Rattle.lifting_blocks.specs.Laws.{steps}
@@ -157,7 +157,7 @@ module _ (F : Func) where
     carries-in (exit i vs) n = carries-none (inBlock F (exit i vs) n .term) refl (λ m i. in-nil i)
 
     module _ (control : controlFits F ≡ true) where
-      carries-exit : {r : ℕ} {p : Place} → Visited F r p → Carries (exitTerm F r p)
+      carries-exit : {r : ℕ} {p : Place} → VisitedAt F r p → Carries (exitTerm F r p)
       carries-exit at-body = carries-root control (ctrlOf F 0) 0 refl
       carries-exit (by-ctrl {s = s} v e i) = carries-root control (ctrlOf F s) s refl
       carries-exit (in-case {n = n} {c = c} {kd = kd} {v = w} {cs = cs} {ds = ds} {u = u} v sf e i) =

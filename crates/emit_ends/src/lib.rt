@@ -25,14 +25,14 @@ ghost use lib.ListN.{getD, length};
 ghost use Rattle.lifting.specs.Points.{regionEntry};
 ghost use Rattle.lifting.specs.Absorb.{mergeLabels};
 ghost use Rattle.func.specs.Decode.{funcOf};
-ghost use Rattle.laws.specs.Members.{All};
+ghost use Rattle.general_laws.specs.Members.{All};
 ghost use Rattle.lifting_runs.specs.Refers.{Named};
 ghost use Rattle.walk_points.specs.Numbers.{Small, pointOf};
 ghost use Rattle.terminators.specs.At.{blockAt};
 ghost use Rattle.terminators.specs.Kinds.{Known, mergeOf, termOf};
 ghost use Rattle.emit_words.specs.Put.{Put};
 ghost use Rattle.emit_insts.specs.Parts.{labelsIn, mergeIn, startIn, termIn};
-ghost use Rattle.emit_insts.specs.Ready.{Ready};
+ghost use Rattle.emit_insts.specs.Ready.{EmitReady};
 
 // The operand kinds of the immediates that merges carry.
 const SELECTION_CONTROL: u32 = 2;
@@ -49,7 +49,7 @@ pub fn put_label(
     first: u32,
     q: usize,
 ) -> Cursor
-    requires { ⌜ Ready (now func) (now work) m first ⌝ }
+    requires { ⌜ EmitReady (now func) (now work) m first ⌝ }
     requires { ⌜ q < 512 ⌝ }
     ensures { λ r. ⌜ Put (now (out .entry)) c (startIn (funcOf (now (func .entry))) first (pointOf q)) (now (out .exit)) r ⌝ }
 {
@@ -77,7 +77,7 @@ fn put_merge_label(
     w: TermKind,
     k: usize,
 ) -> Cursor
-    requires { ⌜ Ready (now func) (now work) m first ⌝ }
+    requires { ⌜ EmitReady (now func) (now work) m first ⌝ }
     requires { ⌜ Known (now func) w × All Small (mergeLabels (mergeOf w)) ⌝ }
     requires { ⌜ k < length (mergeLabels (mergeOf w)) ⌝ }
     ensures { λ r. ⌜ Put (now (out .entry)) c (labelsIn (funcOf (now (func .entry))) first (getD (mergeLabels (mergeOf w)) k (regionEntry 0) ∷ [])) (now (out .exit)) r ⌝ }
@@ -95,7 +95,7 @@ fn put_merge(
     first: u32,
     w: TermKind,
 ) -> Cursor
-    requires { ⌜ Ready (now func) (now work) m first ⌝ }
+    requires { ⌜ EmitReady (now func) (now work) m first ⌝ }
     requires { ⌜ Known (now func) w × All Small (mergeLabels (mergeOf w)) ⌝ }
     ensures { λ r. ⌜ Put (now (out .entry)) c (mergeIn (funcOf (now (func .entry))) first (mergeOf w)) (now (out .exit)) r ⌝ }
 {
@@ -143,7 +143,7 @@ fn put_term(
     first: u32,
     w: TermKind,
 ) -> Cursor
-    requires { ⌜ Ready (now func) (now work) m first ⌝ }
+    requires { ⌜ EmitReady (now func) (now work) m first ⌝ }
     requires { ⌜ (0 < m) × Known (now func) w ⌝ }
     requires { ⌜ All Small (termOf (funcOf (now func)) w .targets) × All (Named (funcOf (now func))) (termOf (funcOf (now func)) w .ins) ⌝ }
     ensures { λ r. ⌜ Put (now (out .entry)) c (termIn (funcOf (now (func .entry))) first (termOf (funcOf (now (func .entry))) w)) (now (out .exit)) r ⌝ }
@@ -175,7 +175,7 @@ pub fn put_end(
     first: u32,
     i: usize,
 ) -> Cursor
-    requires { ⌜ Ready (now func) (now work) m first ⌝ }
+    requires { ⌜ EmitReady (now func) (now work) m first ⌝ }
     requires { ⌜ i < m ⌝ }
     ensures { λ r. ⌜ Put (now (out .entry)) c (mergeIn (funcOf (now (func .entry))) first (blockAt (funcOf (now (func .entry))) i .term .merge) ++ termIn (funcOf (now (func .entry))) first (blockAt (funcOf (now (func .entry))) i .term)) (now (out .exit)) r ⌝ }
 {

@@ -18,28 +18,28 @@ use Rattle.lifting.specs.Walk.{walkOf}
 use Rattle.lifting.specs.Absorb.{kept}
 use Rattle.lifting.specs.Ids.{Name, idOf, nextId, theFunction, value}
 use Rattle.func.specs.Decode.{funcOf}
-use Rattle.laws.specs.Members.{length-tabulate}
+use Rattle.general_laws.specs.Members.{length-tabulate}
 use Rattle.lifting_runs.specs.Ids.{id-const}
 use Rattle.work.specs.Layout.{idsAt, inputIdsAt, outputIdsAt, resultIdsAt, idsEnd}
 use Rattle.work.specs.Aside.{Aside}
 use Rattle.lifting_blocks.specs.Flat.{upTo}
 use Rattle.walk_points.specs.Walk.{few-nodes}
 use Rattle.blocks.specs.Laid.{Laid}
-use Rattle.emit_ids.specs.Ids.{Blank, Ids, idIn, ids-words, namesOf, newIn, nextIn}
+use Rattle.emit_ids.specs.Ids.{IdsBlank, Ids, idIn, ids-words, namesOf, newIn, nextIn}
 use Rattle.emit_ids.specs.Names.{any-laid, few-all-ops, few-ins, few-outs, few-params, firstNames, labelNames, names-few, names-fit, names-flat, names-once, phiNames, resultNames, typed-low}
-use Rattle.emit_ids.specs.Numbered.{Gives, gives-as, gives-aside, gives-length, gives-more, numbered, numbered-at, runWords}
+use Rattle.emit_ids.specs.Numbered.{GivesIds, gives-as, gives-aside, gives-length, gives-more, numbered, numbered-at, runWords}
 use Rattle.emit_ids.specs.Later.{KnownValue, id-low, input-later, laterId, output-later}
 use Rattle.emit_ids.specs.Giving.{laid-given, some-run}
 
 -- ---- from pass to pass
 
 -- the function has an id and no word
-with-function : {l : List Name} {first n : ℕ} {u v : List ℕ} → Gives l (first + 1) u n v → Gives (theFunction ∷ l) first u n v
+with-function : {l : List Name} {first n : ℕ} {u v : List ℕ} → GivesIds l (first + 1) u n v → GivesIds (theFunction ∷ l) first u n v
 unfolding numbered
 with-function {l} {first} {u = u} g = record { next = omega (arith, g .next); words = g .words ∙ ap (λ (j : ℕ). numbered u j l) (add-one first) }
 
 pub gives-first : (F : Func) {first n x : ℕ} {u v : List ℕ} → n ≡ length (F .params) → x ≡ first + 1 + n → v ≡ runWords u inputIdsAt (first + 1) n
-    → Gives (firstNames F) first u x v
+    → GivesIds (firstNames F) first u x v
 gives-first F {n = n} e a b =
     with-function (some-run (regionInput 0) refl (λ i. refl) (length (F .params)) (e ∙ sym (length-tabulate (regionInput 0) 0 (length (F .params)))) a b)
 
@@ -69,21 +69,21 @@ module _ {w u : List ℕ} {m first : ℕ} (k : Laid w u m) (h : first ≤ highes
   pub first-room : {n : ℕ} → n ≡ length (F .params) → (idsAt < length u) × (first + 1 + n ≤ 4294967295)
   first-room e = (omega (arith, k .size), omega (arith, few-params (k .tables)))
 
-  module _ {a : ℕ} {va : List ℕ} (ga : Gives (firstNames F) first u a va) where
+  module _ {a : ℕ} {va : List ℕ} (ga : GivesIds (firstNames F) first u a va) where
     pub phis-room : Laid w va m × (a ≤ 1000000000)
     phis-room = (laid-given k ga, omega (arith, ga .next, all))
 
-    module _ {b : ℕ} {vb : List ℕ} (gb : Gives P a va b vb) where
+    module _ {b : ℕ} {vb : List ℕ} (gb : GivesIds P a va b vb) where
       pub results-room : Laid w vb m × (b ≤ 1000000000)
       results-room = (laid-given (laid-given k ga) gb, omega (arith, ga .next, gb .next, all))
 
-      module _ {c : ℕ} {vc : List ℕ} (gc : Gives R b vb c vc) where
+      module _ {c : ℕ} {vc : List ℕ} (gc : GivesIds R b vb c vc) where
         pub labels-room : Laid w vc m × (c ≤ 1000000000)
         labels-room = (laid-given (laid-given (laid-given k ga) gb) gc, omega (arith, ga .next, gb .next, gc .next, all))
 
         -- the tables of all ids
-        module _ {d : ℕ} {v : List ℕ} (gd : Gives L c vc d v) (blank : Blank u) where
-          given : Gives (namesOf F) first u d v
+        module _ {d : ℕ} {v : List ℕ} (gd : GivesIds L c vc d v) (blank : IdsBlank u) where
+          given : GivesIds (namesOf F) first u d v
           given = gives-as (sym (names-flat F (any-laid k) (k .count))) (gives-more ga (gives-more gb (gives-more gc gd)))
 
           pub number-done : (d ≡ nextIn F first) × (Ids F first v × (Aside idsAt idsEnd u v × (length v ≡ length u)))

@@ -12,7 +12,7 @@ use native.Mathlib.Omega.{arith}
 use lib.Dec.{ltb}
 use lib.ListN.{getD, length, length-map, List·getD-eq-default, set}
 use borrow.Author.Tests.{ltb-true, ltb-false}
-use Rattle.laws.specs.Lists.{tabulate}
+use Rattle.general_laws.specs.Lists.{tabulate}
 use Rattle.lifting.specs.Ast.{Func, Op, Value, call, dataInstOutput, nodeOutput, regionInput}
 use Rattle.lifting.specs.Parts.{nodeOf, opOf, outsOf, regionOf}
 use Rattle.lifting.specs.Points.{CfgPoint}
@@ -21,7 +21,7 @@ use Rattle.lifting.specs.Ids.{Name, resultOf, value}
 use Rattle.func.specs.Decode.{funcOf}
 use Rattle.func.specs.Tables.{Tables}
 use Rattle.work.specs.Layout.{pointsAt, statusesAt, idsEnd, workNeed}
-use Rattle.laws.specs.Members.{length-tabulate}
+use Rattle.general_laws.specs.Members.{length-tabulate}
 use Rattle.lifting_runs.specs.Tour.{same-position}
 use Rattle.lifting_blocks.specs.Flat.{Status, goes, gone, noPair, starts, upTo}
 use Rattle.lifting_blocks.specs.Laws.{each-once}
@@ -33,7 +33,7 @@ use Rattle.blocks.specs.Absorbs.{goes-from, stands, statusWord, word-gone}
 use Rattle.blocks.specs.Laid.{Laid, laid-kept}
 use Rattle.emit_ids.specs.Ids.{slotOf}
 use Rattle.emit_ids.specs.Names.{KeyRun, few-all-ops, few-phis, inputs, key-low, key-run, keyWord, length-run, length-upTo, no-keys, one-result, opNames, ops-of, opsAt, opsNames, outputs, phiNames, result-some, resultNames, typed-low}
-use Rattle.emit_ids.specs.Numbered.{Gives, gives-as, gives-length, gives-low, gives-none, gives-turn, numbered, numbered-run, putAt, runWords}
+use Rattle.emit_ids.specs.Numbered.{GivesIds, gives-as, gives-length, gives-low, gives-none, gives-turn, numbered, numbered-run, putAt, runWords}
 
 -- ---- one run of names
 
@@ -46,14 +46,14 @@ run-none u s k zero h = refl
 run-none u s k (suc n) h = absurd (omega arith)
 
 pub some-run : (f : ℕ → Value) {s : ℕ} → slotOf (value (f 0)) ≡ some s → ((i : ℕ) → slotOf (value (f (suc i))) ≡ none) → (c : ℕ) {n k x : ℕ} {u v : List ℕ}
-    → n ≡ length (tabulate f 0 c) → x ≡ k + n → v ≡ runWords u s k n → Gives (map value (tabulate f 0 c)) k u x v
+    → n ≡ length (tabulate f 0 c) → x ≡ k + n → v ≡ runWords u s k n → GivesIds (map value (tabulate f 0 c)) k u x v
 some-run f {s} first later c {n} {k} {x} {u} e y w =
     let z : n ≡ c = e ∙ length-tabulate f 0 c in
     record { next = omega (arith, length-run f c); words = w ∙ ap (λ (j : ℕ). runWords u s k j) z ∙ sym (numbered-run f first later u k c) }
 
 -- the phis of a position
 pub gives-run : {F : Func} {s : ℕ} {ks : List Value} → KeyRun F s ks → {n k x : ℕ} {u v : List ℕ} → n ≡ length ks → x ≡ k + n → v ≡ runWords u s k n
-    → Gives (map value ks) k u x v
+    → GivesIds (map value ks) k u x v
 unfolding numbered
 gives-run {s = s} no-keys {n} {k} {x} {u} e y w = record { next = omega arith; words = w ∙ sym (run-none u s k n e) }
 gives-run {F} (inputs {r} h q) {n} {k} {x} {u} e y w =
@@ -62,16 +62,16 @@ gives-run {F} (outputs {n = d} h q) {n} {k} {x} {u} e y w =
     some-run (nodeOutput d) (ap some (sym q)) (λ i. refl) (length (outsOf (nodeOf F d))) e y w
 
 -- a single name that has a word
-pub gives-one : {l : List Name} {x : Name} {s : ℕ} → l ≡ x ∷ [] → slotOf x ≡ some s → {k n : ℕ} {u v : List ℕ} → n ≡ k + 1 → v ≡ set u s k → Gives l k u n v
+pub gives-one : {l : List Name} {x : Name} {s : ℕ} → l ≡ x ∷ [] → slotOf x ≡ some s → {k n : ℕ} {u v : List ℕ} → n ≡ k + 1 → v ≡ set u s k → GivesIds l k u n v
 unfolding numbered
 gives-one {x = x} {s} e q {k} {n} {u} {v} a w =
     gives-as (sym e) (record { next = a; words = w ∙ ap (λ (o : Option ℕ). putAt u k o) (sym q) })
 
-pub gives-nothing : {l : List Name} → l ≡ [] → (k : ℕ) (u : List ℕ) → Gives l k u k u
+pub gives-nothing : {l : List Name} → l ≡ [] → (k : ℕ) (u : List ℕ) → GivesIds l k u k u
 gives-nothing e k u = gives-as (sym e) (gives-none k u)
 
 -- the blocks stay laid out
-pub laid-given : {l : List Name} {w u v : List ℕ} {m k n : ℕ} → Laid w u m → Gives l k u n v → Laid w v m
+pub laid-given : {l : List Name} {w u v : List ℕ} {m k n : ℕ} → Laid w u m → GivesIds l k u n v → Laid w v m
 laid-given laid g = laid-kept laid (λ x a b. gives-low g x b) (gives-length g)
 
 -- ---- a pass over the positions
@@ -79,7 +79,7 @@ laid-given laid g = laid-kept laid (λ x a b. gives-low g x b) (gives-length g)
 pub record Passing (f : ℕ → List Name) (w u₀ : List ℕ) (m k₀ i : ℕ) (u : List ℕ) (k : ℕ) : Type 0 where
   pub laid : Laid w u m
   pub below : i ≤ m
-  pub given : Gives (upTo f i) k₀ u₀ k u
+  pub given : GivesIds (upTo f i) k₀ u₀ k u
   pub room : k ≤ k₀ + 4095 * i
 
 pub pass-first : {f : ℕ → List Name} {w u : List ℕ} {m k : ℕ} → Laid w u m → Passing f w u m k 0 u k
@@ -90,7 +90,7 @@ module _ {f : ℕ → List Name} {w u₀ : List ℕ} {m k₀ i : ℕ} {u : List 
   pub pass-room : k₀ ≤ 1000000000 → i < m → k ≤ 4000000000
   pass-room h l = omega (arith, p .room, p .laid .few)
 
-  pub pass-next : {v : List ℕ} {n : ℕ} → i < m → Gives (f i) k u n v → length (f i) ≤ 4095 → Passing f w u₀ m k₀ (i + 1) v n
+  pub pass-next : {v : List ℕ} {n : ℕ} → i < m → GivesIds (f i) k u n v → length (f i) ≤ 4095 → Passing f w u₀ m k₀ (i + 1) v n
   pass-next h g few = record {
     laid = laid-given (p .laid) g;
     below = omega arith;
@@ -101,7 +101,7 @@ module _ {f : ℕ → List Name} {w u₀ : List ℕ} {m k₀ i : ℕ} {u : List 
   pub pass-length : length u ≡ length u₀
   pass-length = gives-length (p .given)
 
-  pub pass-done : m ≤ i → Gives (upTo f m) k₀ u₀ k u
+  pub pass-done : m ≤ i → GivesIds (upTo f m) k₀ u₀ k u
   pass-done h = let e : i ≡ m = omega (arith, p .below) in gives-as (ap (upTo f) e) (p .given)
 
 -- ---- a pass over the ops of a node
@@ -111,7 +111,7 @@ pub record Results (F : Func) (l : List ℕ) (u₀ : List ℕ) (count k₀ j : �
   pub few : count ≤ 4095
   pub below : j ≤ count
   pub size : workNeed ≤ length u
-  pub given : Gives (upTo (λ i. opNames F (getD l i 0)) j) k₀ u₀ k u
+  pub given : GivesIds (upTo (λ i. opNames F (getD l i 0)) j) k₀ u₀ k u
 
 pub result-first : {F : Func} {l u : List ℕ} {count k : ℕ} → count ≡ length l → length l ≤ 4095 → workNeed ≤ length u → Results F l u count k 0 u k
 unfolding upTo
@@ -122,7 +122,7 @@ module _ {F : Func} {l u₀ : List ℕ} {count k₀ j : ℕ} {u : List ℕ} {k :
   result-room h =
       omega (arith, p .given .next, length-upTo (λ i. opNames F (getD l i 0)) 1 j (λ i l'. one-result F (getD l i 0)), p .below, p .few)
 
-  pub result-next : {o : ℕ} {v : List ℕ} {n : ℕ} → j < count → o ≡ getD l j 0 → Gives (opNames F o) k u n v → Results F l u₀ count k₀ (j + 1) v n
+  pub result-next : {o : ℕ} {v : List ℕ} {n : ℕ} → j < count → o ≡ getD l j 0 → GivesIds (opNames F o) k u n v → Results F l u₀ count k₀ (j + 1) v n
   result-next h e g = record {
     all = p .all;
     few = p .few;
@@ -131,7 +131,7 @@ module _ {F : Func} {l u₀ : List ℕ} {count k₀ j : ℕ} {u : List ℕ} {k :
     given = gives-turn (λ i. opNames F (getD l i 0)) j (p .given) (gives-as (ap (opNames F) e) g);
   }
 
-  pub result-done : count ≤ j → Gives (opsNames F l) k₀ u₀ k u
+  pub result-done : count ≤ j → GivesIds (opsNames F l) k₀ u₀ k u
   result-done h = let e : j ≡ length l = omega (arith, p .below, p .all) in gives-as (ap (upTo (λ i. opNames F (getD l i 0))) e) (p .given)
 
 -- ---- results
@@ -217,7 +217,7 @@ module _ {w u : List ℕ} {m : ℕ} (k : Laid w u m) (i : ℕ) (h : i < m) {n s 
     omega (arith, e, few-phis (k .tables) ok i inside, length-map (blockAt (funcOf w) i .keys) value),
   )
 
-  pub gives-phis : {x y : ℕ} {v : List ℕ} → y ≡ x + n → v ≡ runWords u s x n → Gives (phiNames (funcOf w) i) x u y v
+  pub gives-phis : {x y : ℕ} {v : List ℕ} → y ≡ x + n → v ≡ runWords u s x n → GivesIds (phiNames (funcOf w) i) x u y v
   gives-phis a b = gives-run (subst (λ (z : ℕ). KeyRun (funcOf w) z (blockAt (funcOf w) i .keys)) (sym q) (key-run (funcOf w) ok i inside)) e a b
 
 -- the first of no children, and the type of no op
@@ -240,6 +240,6 @@ module _ {w u : List ℕ} {m : ℕ} (k : Laid w u m) (i : ℕ) (h : i < m) (kept
       ∙ sym (result-some (funcOf w) i (kept-here k i h kept)
       ∙ ap (opsNames (funcOf w)) (ops-of (funcOf w) (k .walked (omega arith) .walkable) i (omega (arith, k .count))))
 
-  pub no-results : opsAt (funcOf w) p ≡ [] → (x : ℕ) (v : List ℕ) → Gives (resultNames (funcOf w) i) x v x v
+  pub no-results : opsAt (funcOf w) p ≡ [] → (x : ℕ) (v : List ℕ) → GivesIds (resultNames (funcOf w) i) x v x v
   unfolding upTo
   no-results q x v = gives-nothing (sym results-are ∙ ap (opsNames (funcOf w)) q) x v

@@ -12,7 +12,7 @@ use native.Mathlib.Omega.{arith}
 use lib.Dec.{ltb}
 use lib.ListN.{getD}
 use borrow.Author.Tests.{ltb-true, ltb-false}
-use Rattle.laws.specs.Compare.{lower, higher}
+use Rattle.general_laws.specs.Compare.{lower, higher}
 use Rattle.lifting.specs.Ast.{Func, Value, const, dataInstOutput, nodeOutput, regionInput}
 use Rattle.lifting.specs.Points.{CfgPoint}
 use Rattle.lifting.specs.Walk.{walkOf}
@@ -52,10 +52,10 @@ pub record Ids (F : Func) (first : ℕ) (u : List ℕ) : Type 0 where
   pub label : (q : ℕ) → q < 512 → getD u (labelIdsAt + q) 0 ≡ newIn F first (label (pointOf q))
 
 -- nothing has an id yet
-pub record Blank (u : List ℕ) : Type 0 where
+pub record IdsBlank (u : List ℕ) : Type 0 where
   pub word : (x : ℕ) → idsAt ≤ x → x < idsEnd → getD u x 0 ≡ 0
 
-pub blank-blocks : {w u : List ℕ} {m : ℕ} → Visited w u m → BlockWords (funcOf w) u → Blank u
+pub blank-blocks : {w u : List ℕ} {m : ℕ} → Visited w u m → BlockWords (funcOf w) u → IdsBlank u
 blank-blocks k b = record { word = λ x a h. blank-after k b x a }
 
 pub ids-kept : {F : Func} {first : ℕ} {u v : List ℕ} → Ids F first u → ((x : ℕ) → idsAt ≤ x → x < idsEnd → getD v x 0 ≡ getD u x 0) → Ids F first v
@@ -80,13 +80,13 @@ slotOf (value (dataInstOutput o)) = some (resultIdsAt + o)
 slotOf (label p) = some (labelIdsAt + pointNumber p)
 
 -- its region, node, op or point is one for which the tables have a word
-abbrev pub Fits : Name → Type 0
-Fits theFunction = Unit {0}
-Fits (value (const n)) = Unit {0}
-Fits (value (regionInput r i)) = r < 128
-Fits (value (nodeOutput n i)) = n < 128
-Fits (value (dataInstOutput o)) = o < 512
-Fits (label p) = Small p
+abbrev pub NameFits : Name → Type 0
+NameFits theFunction = Unit {0}
+NameFits (value (const n)) = Unit {0}
+NameFits (value (regionInput r i)) = r < 128
+NameFits (value (nodeOutput n i)) = n < 128
+NameFits (value (dataInstOutput o)) = o < 512
+NameFits (label p) = Small p
 
 -- the name whose id word s holds
 unfoldable pub nameIn : ℕ → Name
@@ -129,7 +129,7 @@ no-slot : {b : ℕ} → none ≡ some b → ⊥
 no-slot {b} e = let z : _≡_ {A = ℕ} 0 1 = cc in omega arith
 
 -- a word is that of one name only
-pub slot-name : (x : Name) → Fits x → (s : ℕ) → slotOf x ≡ some s → nameIn s ≡ x
+pub slot-name : (x : Name) → NameFits x → (s : ℕ) → slotOf x ≡ some s → nameIn s ≡ x
 slot-name theFunction f s e = absurd (no-slot e)
 slot-name (value (const n)) f s e = absurd (no-slot e)
 slot-name (value (regionInput r zero)) f s e = ap nameIn (sym (same-slot e)) ∙ input-name r f
@@ -165,7 +165,7 @@ slot-from (value (nodeOutput n (suc i))) s e = absurd (no-slot e)
 slot-from (value (dataInstOutput o)) s e = omega (arith, same-slot e)
 slot-from (label p) s e = omega (arith, same-slot e)
 
-pub slot-to : (x : Name) → Fits x → (s : ℕ) → slotOf x ≡ some s → s < idsEnd
+pub slot-to : (x : Name) → NameFits x → (s : ℕ) → slotOf x ≡ some s → s < idsEnd
 slot-to theFunction f s e = absurd (no-slot e)
 slot-to (value (const n)) f s e = absurd (no-slot e)
 slot-to (value (regionInput r zero)) f s e = omega (arith, same-slot e)

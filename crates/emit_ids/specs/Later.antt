@@ -14,8 +14,8 @@ use native.Mathlib.Omega.{arith}
 use lib.Dec.{eqb}
 use lib.ListN.{getD, length}
 use borrow.Author.Tests.{eqb-true}
-use Rattle.laws.specs.Tests.{both}
-use Rattle.laws.specs.Lists.{choose-no, choose-yes, tabulate}
+use Rattle.general_laws.specs.Tests.{both}
+use Rattle.general_laws.specs.Lists.{choose-no, choose-yes, tabulate}
 use Rattle.lifting.specs.Ast.{ControlInst, Func, Region, Value, dataInstOutput, nodeOutput, regionInput}
 use Rattle.lifting.specs.Parts.{insKeys, nodeOf, outKeys, outsOf, regionOf}
 use Rattle.lifting.specs.References.{named}
@@ -24,11 +24,11 @@ use Rattle.lifting.specs.Points.{CfgPoint, Table, points}
 use Rattle.lifting.specs.Walk.{walkOf}
 use Rattle.lifting.specs.Absorb.{kept}
 use Rattle.lifting.specs.Ids.{Name, eqName, label, names, newId, newValues, numberIn, opKeys, paramKeys, phiKeys, theFunction, value}
-use Rattle.laws.specs.Gather.{map-append}
+use Rattle.general_laws.specs.Gather.{map-append}
 use Rattle.func.specs.Decode.{funcOf}
 use Rattle.func.specs.Tables.{Tables}
 use Rattle.lifting_runs.specs.Ids.{number-range}
-use Rattle.laws.specs.Members.{All, map-tabulate}
+use Rattle.general_laws.specs.Members.{All, map-tabulate}
 use Rattle.work.specs.Aside.{split}
 use Rattle.lifting_blocks.specs.Flat.{upTo}
 use Rattle.walk_points.specs.Walk.{Walkable}

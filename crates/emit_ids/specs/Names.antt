@@ -14,7 +14,7 @@ use Prim.Native.Nat.{ℕ, zero, suc, _+_, _*_, _≤_, _<_}
 use native.Mathlib.Omega.{arith}
 use lib.Dec.{lit<}
 use lib.ListN.{getD, length, length-append, length-map}
-use Rattle.laws.specs.Lists.{gather, tabulate}
+use Rattle.general_laws.specs.Lists.{gather, tabulate}
 use Rattle.lifting.specs.Ast.{Func, Node, Op, Value, block, call, dataInstOutput, exit, loop, nodeOutput, regionInput, select}
 use Rattle.lifting.specs.Parts.{blockOps, childrenOf, insKeys, nodeOf, opOf, outKeys, outsOf, regionOf}
 use Rattle.lifting.specs.Points.{BlockLifting, CfgPoint, Table, nodeEntry, nodeExit, regionEntry, regionExit}
@@ -22,13 +22,13 @@ use Rattle.lifting.specs.Walk.{Place, entryKeys, inBlock, inNode, top, walkOf}
 use Rattle.lifting.specs.Absorb.{absorb, kept, useCount}
 use Rattle.lifting.specs.Ids.{Name, label, names, paramKeys, phiKeys, resultOf, theFunction, value}
 use Rattle.func.specs.Layout.{ops, params}
-use Rattle.laws.specs.Gather.{map-append, gather-none}
+use Rattle.general_laws.specs.Gather.{map-append, gather-none}
 use Rattle.func.specs.Decode.{funcOf}
 use Rattle.func.specs.Tables.{Tables, list-count, node-ops, node-outs, op-total, param-total, region-ins}
-use Rattle.laws.specs.Members.{All, In, NoDup, all-append, here, length-tabulate, map-in, map-tabulate, nodup-map, nodup-tabulate}
-use Rattle.laws.specs.Tests.{all-tabulate}
+use Rattle.general_laws.specs.Members.{All, In, NoDup, all-append, here, length-tabulate, map-in, map-tabulate, nodup-map, nodup-tabulate}
+use Rattle.general_laws.specs.Tests.{all-tabulate}
 use Rattle.work.specs.Layout.{inputIdsAt, outputIdsAt, idsEnd}
-use Rattle.lifting_blocks.specs.Flat.{Status, glueAt, goes, gone, noPair, part, partAt, starts, unlessGlued, upTo}
+use Rattle.lifting_blocks.specs.Flat.{Status, absorbsHere, goes, gone, noPair, part, partAt, starts, unlessAbsorbs, upTo}
 use Rattle.lifting_blocks.specs.FlatLaws.{upTo-cons}
 use Rattle.lifting_blocks.specs.ListFlat.{heads, results}
 use Rattle.lifting_blocks.specs.Laws.{names-are, no-name-twice}
@@ -38,7 +38,7 @@ use Rattle.blocks.specs.Absorbs.{stands}
 use Rattle.blocks.specs.Laid.{Laid}
 use Rattle.emit_ids.specs.declared.Kind.{Kind}
 use Rattle.emit_ids.specs.declared.Kind.the-variants.{Phis, Results, Labels}
-use Rattle.emit_ids.specs.Ids.{Fits, namesOf}
+use Rattle.emit_ids.specs.Ids.{NameFits, namesOf}
 
 module _ (F : Func) where
   -- of the i-th visited point
@@ -235,7 +235,7 @@ module _ (F : Func) where
   abbrev resultsOf : List ℕ → List Value
   resultsOf l = gather (λ o. resultOf (opOf F o .type) o) l
 
-  no-more : (g : Bool) → unlessGlued (results F) g [] ≡ []
+  no-more : (g : Bool) → unlessAbsorbs (results F) g [] ≡ []
   no-more true = refl
   no-more false = refl
 
@@ -247,7 +247,7 @@ module _ (F : Func) where
 
   pub result-none : (i : ℕ) → stands F i ≡ gone → resultNames F i ≡ []
   unfolding partAt part
-  result-none i e = ap (λ (s : Status). map value (part (results F) s (glueAt (useCount (walkOf F)) (walkOf F) i) (getD (walkOf F) i noPair))) e
+  result-none i e = ap (λ (s : Status). map value (part (results F) s (absorbsHere (useCount (walkOf F)) (walkOf F) i) (getD (walkOf F) i noPair))) e
 
   -- a position in a kept block numbers the results of its ops, one after the other
   abbrev pub opsNames : List ℕ → List Name
@@ -256,7 +256,7 @@ module _ (F : Func) where
   pub result-some : (i : ℕ) → ¬ (stands F i ≡ gone) → resultNames F i ≡ opsNames (blockAt F i .ops)
   unfolding partAt
   result-some i n =
-      ap (λ (l : List Value). map value l) (part-some (stands F i) (glueAt (useCount (walkOf F)) (walkOf F) i) (getD (walkOf F) i noPair) n
+      ap (λ (l : List Value). map value l) (part-some (stands F i) (absorbsHere (useCount (walkOf F)) (walkOf F) i) (getD (walkOf F) i noPair) n
       ∙ gather-positions (λ o. resultOf (opOf F o .type) o) 0 (blockAt F i .ops))
       ∙ map-upTo value (λ j. resultOf (opOf F (getD (blockAt F i .ops) j 0) .type) (getD (blockAt F i .ops) j 0)) (length (blockAt F i .ops))
 
@@ -333,11 +333,11 @@ module _ (F : Func) where
 
   pub label-one : (i : ℕ) → stands F i ≡ starts → labelNames F i ≡ label (pointAt F i) ∷ []
   unfolding partAt
-  label-one i e = ap (λ (l : List CfgPoint). map label l) (part-head (stands F i) (glueAt (useCount (walkOf F)) (walkOf F) i) (getD (walkOf F) i noPair) e)
+  label-one i e = ap (λ (l : List CfgPoint). map label l) (part-head (stands F i) (absorbsHere (useCount (walkOf F)) (walkOf F) i) (getD (walkOf F) i noPair) e)
 
   pub label-none : (i : ℕ) → ¬ (stands F i ≡ starts) → labelNames F i ≡ []
   unfolding partAt
-  label-none i n = ap (λ (l : List CfgPoint). map label l) (part-tail (stands F i) (glueAt (useCount (walkOf F)) (walkOf F) i) (getD (walkOf F) i noPair) n)
+  label-none i n = ap (λ (l : List CfgPoint). map label l) (part-tail (stands F i) (absorbsHere (useCount (walkOf F)) (walkOf F) i) (getD (walkOf F) i noPair) n)
 
   -- what holds of the label
   pub all-label : (P : Name → Type 0) (i : ℕ) → P (label (pointAt F i)) → All P (labelNames F i)
@@ -366,10 +366,10 @@ module _ {w : List ℕ} (t : Tables w) where
   run-few (inputs {r} h e) = omega (arith, length-run (regionInput r) (length (regionOf F r .ins)), few-ins r h)
   run-few (outputs {n} h e) = omega (arith, length-run (nodeOutput n) (length (outsOf (nodeOf F n))), few-outs n h)
 
-  run-fits : length (F .regions) ≤ 128 → {s : ℕ} {ks : List Value} → KeyRun F s ks → All Fits (map value ks)
+  run-fits : length (F .regions) ≤ 128 → {s : ℕ} {ks : List Value} → KeyRun F s ks → All NameFits (map value ks)
   run-fits few no-keys = tt
-  run-fits few (inputs {r} h e) = all-run Fits (regionInput r) (length (regionOf F r .ins)) (λ i. omega arith)
-  run-fits few (outputs {n} h e) = all-run Fits (nodeOutput n) (length (outsOf (nodeOf F n))) (λ i. omega (arith, few-nodes t))
+  run-fits few (inputs {r} h e) = all-run NameFits (regionInput r) (length (regionOf F r .ins)) (λ i. omega arith)
+  run-fits few (outputs {n} h e) = all-run NameFits (nodeOutput n) (length (outsOf (nodeOf F n))) (λ i. omega (arith, few-nodes t))
 
   point-few : (p : CfgPoint) → InText F p → length (opsAt F p) ≤ 4095
   point-few (regionEntry r) h = omega arith
@@ -407,14 +407,14 @@ module _ {w : List ℕ} (t : Tables w) where
     few-names Results = few-results
     few-names Labels = few-labels
 
-    phis-fit : All Fits (phiNames F i)
+    phis-fit : All NameFits (phiNames F i)
     phis-fit = run-fits (ok .named .few) (key-run F ok i h)
 
-    results-fit : All Fits (resultNames F i)
-    results-fit = all-results F Fits (λ o l. omega (arith, few-all-ops)) i
+    results-fit : All NameFits (resultNames F i)
+    results-fit = all-results F NameFits (λ o l. omega (arith, few-all-ops)) i
 
-    labels-fit : All Fits (labelNames F i)
-    labels-fit = all-label F Fits i (small-text F (ok .named .few) (few-nodes t) (pointAt F i) (in-text F ok i h))
+    labels-fit : All NameFits (labelNames F i)
+    labels-fit = all-label F NameFits i (small-text F (ok .named .few) (few-nodes t) (pointAt F i) (in-text F ok i h))
 
   -- what holds at each position; an imported function has none
   at-each : AnyText F → (P : ℕ → Type 0) → ((ok : Walkable F) (i : ℕ) → i < length (walkOf F) → P i) → (i : ℕ) → i < length (walkOf F) → P i
@@ -429,12 +429,12 @@ module _ {w : List ℕ} (t : Tables w) where
     abbrev m : ℕ
     m = length (walkOf F)
 
-    pub names-fit : All Fits (namesOf F)
-    names-fit = subst (All Fits) (sym (names-flat F any refl))
-        (all-append Fits (firstNames F) _ (tt, all-run Fits (regionInput 0) (length (F .params)) (λ i. omega arith))
-        (all-append Fits (upTo (phiNames F) m) _ (all-upTo Fits (phiNames F) m (at-each any (λ i. All Fits (phiNames F i)) phis-fit))
-        (all-append Fits (upTo (resultNames F) m) _ (all-upTo Fits (resultNames F) m (at-each any (λ i. All Fits (resultNames F i)) results-fit))
-        (all-upTo Fits (labelNames F) m (at-each any (λ i. All Fits (labelNames F i)) labels-fit)))))
+    pub names-fit : All NameFits (namesOf F)
+    names-fit = subst (All NameFits) (sym (names-flat F any refl))
+        (all-append NameFits (firstNames F) _ (tt, all-run NameFits (regionInput 0) (length (F .params)) (λ i. omega arith))
+        (all-append NameFits (upTo (phiNames F) m) _ (all-upTo NameFits (phiNames F) m (at-each any (λ i. All NameFits (phiNames F i)) phis-fit))
+        (all-append NameFits (upTo (resultNames F) m) _ (all-upTo NameFits (resultNames F) m (at-each any (λ i. All NameFits (resultNames F i)) results-fit))
+        (all-upTo NameFits (labelNames F) m (at-each any (λ i. All NameFits (labelNames F i)) labels-fit)))))
 
     -- at most 65, and three times 4,095 for each of 512 points
     pub names-few : length (namesOf F) ≤ 6289985

@@ -11,14 +11,14 @@ use native.Mathlib.Numerals.{add-one}
 use native.Mathlib.Omega.{arith}
 use lib.ListN.{getD, length, length-append, length-set, set}
 use lib.Seq.{getD-set-other, getD-set-same}
-use Rattle.laws.specs.Lists.{choose-no, choose-yes, tabulate}
+use Rattle.general_laws.specs.Lists.{choose-no, choose-yes, tabulate}
 use Rattle.lifting.specs.Ast.{Value}
 use Rattle.lifting.specs.Ids.{Name, eqName, numberIn, value}
-use Rattle.laws.specs.Members.{All, In, NoDup, all-in, here, there}
+use Rattle.general_laws.specs.Members.{All, In, NoDup, all-in, here, there}
 use Rattle.work.specs.Layout.{idsAt, idsEnd}
 use Rattle.work.specs.Aside.{Aside, aside-none, aside-set, aside-more, split}
 use Rattle.lifting_blocks.specs.Flat.{upTo}
-use Rattle.emit_ids.specs.Ids.{Fits, nameIn, name-slot, slot-from, slot-name, slot-to, slotOf}
+use Rattle.emit_ids.specs.Ids.{NameFits, nameIn, name-slot, slot-from, slot-name, slot-to, slotOf}
 
 -- k in the word, if there is one
 abbrev pub putAt : List ℕ → ℕ → Option ℕ → List ℕ
@@ -30,7 +30,7 @@ numbered u k [] = u
 numbered u k (x ∷ l) = numbered (putAt u k (slotOf x)) (suc k) l
 
 -- the words v, in which the names l have the ids from k on that they lack in u, and the next id n
-pub record Gives (l : List Name) (k : ℕ) (u : List ℕ) (n : ℕ) (v : List ℕ) : Type 0 where
+pub record GivesIds (l : List Name) (k : ℕ) (u : List ℕ) (n : ℕ) (v : List ℕ) : Type 0 where
   pub next : n ≡ k + length l
   pub words : v ≡ numbered u k l
 
@@ -45,20 +45,20 @@ numbered-append u k [] m = ap (λ (j : ℕ). numbered u j m) (omega arith)
 numbered-append u k (x ∷ l) m =
     ap (λ (j : ℕ). numbered (numbered (putAt u k (slotOf x)) (suc k) l) j m) (omega arith) ∙ numbered-append (putAt u k (slotOf x)) (suc k) l m
 
-pub gives-none : (k : ℕ) (u : List ℕ) → Gives [] k u k u
+pub gives-none : (k : ℕ) (u : List ℕ) → GivesIds [] k u k u
 unfolding numbered
 gives-none k u = record { next = omega arith; words = refl }
 
-pub gives-more : {l m : List Name} {k n j : ℕ} {u v w : List ℕ} → Gives l k u n v → Gives m n v j w → Gives (l ++ m) k u j w
+pub gives-more : {l m : List Name} {k n j : ℕ} {u v w : List ℕ} → GivesIds l k u n v → GivesIds m n v j w → GivesIds (l ++ m) k u j w
 gives-more {l} {m} {k} {u = u} p q = record {
   next = omega (arith, p .next, q .next, length-append l m);
   words = q .words ∙ ap₂ (λ (x : List ℕ) (i : ℕ). numbered x i m) (p .words) (p .next) ∙ numbered-append u k l m;
 }
 
-pub gives-as : {l m : List Name} {k n : ℕ} {u v : List ℕ} → l ≡ m → Gives l k u n v → Gives m k u n v
-gives-as {k = k} {n} {u} {v} e p = subst (λ (x : List Name). Gives x k u n v) e p
+pub gives-as : {l m : List Name} {k n : ℕ} {u v : List ℕ} → l ≡ m → GivesIds l k u n v → GivesIds m k u n v
+gives-as {k = k} {n} {u} {v} e p = subst (λ (x : List Name). GivesIds x k u n v) e p
 
-pub gives-turn : (f : ℕ → List Name) (i : ℕ) {k n j : ℕ} {u v w : List ℕ} → Gives (upTo f i) k u n v → Gives (f i) n v j w → Gives (upTo f (i + 1)) k u j w
+pub gives-turn : (f : ℕ → List Name) (i : ℕ) {k n j : ℕ} {u v w : List ℕ} → GivesIds (upTo f i) k u n v → GivesIds (f i) n v j w → GivesIds (upTo f (i + 1)) k u j w
 unfolding upTo
 gives-turn f i p q = gives-as (ap (upTo f) (sym (add-one i))) (gives-more p q)
 
@@ -83,23 +83,23 @@ numbered-other u k s [] h = refl
 numbered-other u k s (x ∷ l) h =
     numbered-other (putAt u k (slotOf x)) (suc k) s l (λ y i. h y (there i)) ∙ put-other u k s (slotOf x) (h x here)
 
-put-aside : (u : List ℕ) (k : ℕ) (x : Name) → Fits x → (o : Option ℕ) → slotOf x ≡ o → Aside idsAt idsEnd u (putAt u k o)
+put-aside : (u : List ℕ) (k : ℕ) (x : Name) → NameFits x → (o : Option ℕ) → slotOf x ≡ o → Aside idsAt idsEnd u (putAt u k o)
 put-aside u k x f none e = aside-none idsAt idsEnd u
 put-aside u k x f (some s) e = aside-set (aside-none idsAt idsEnd u) s k (slot-from x s e) (slot-to x f s e)
 
-numbered-aside : (u : List ℕ) (k : ℕ) (l : List Name) → All Fits l → Aside idsAt idsEnd u (numbered u k l)
+numbered-aside : (u : List ℕ) (k : ℕ) (l : List Name) → All NameFits l → Aside idsAt idsEnd u (numbered u k l)
 unfolding numbered
 numbered-aside u k [] f = aside-none idsAt idsEnd u
 numbered-aside u k (x ∷ l) f = aside-more (put-aside u k x (f .0) (slotOf x) refl) (numbered-aside (putAt u k (slotOf x)) (suc k) l (f .1))
 
-module _ {l : List Name} {k n : ℕ} {u v : List ℕ} (g : Gives l k u n v) where
+module _ {l : List Name} {k n : ℕ} {u v : List ℕ} (g : GivesIds l k u n v) where
   pub gives-length : length v ≡ length u
   gives-length = ap length (g .words) ∙ numbered-length u k l
 
   pub gives-low : (x : ℕ) → x < idsAt → getD v x 0 ≡ getD u x 0
   gives-low x h = ap (λ (w : List ℕ). getD w x 0) (g .words) ∙ numbered-other u k x l (λ y i e. omega (arith, slot-from y x e))
 
-  pub gives-aside : All Fits l → Aside idsAt idsEnd u v
+  pub gives-aside : All NameFits l → Aside idsAt idsEnd u v
   gives-aside f = subst (Aside idsAt idsEnd u) (sym (g .words)) (numbered-aside u k l f)
 
 -- ---- a run of inputs or of outputs
@@ -120,7 +120,7 @@ numbered-run f {s} e h u k (suc n) =
 -- ---- read back
 
 module _ (s : ℕ) (from : idsAt ≤ s) (to : s < idsEnd) where
-  pub numbered-at : (u : List ℕ) (k : ℕ) (l : List Name) → NoDup l → All Fits l → getD u s 0 ≡ 0 → s < length u → getD (numbered u k l) s 0 ≡ numberIn k (nameIn s) l
+  pub numbered-at : (u : List ℕ) (k : ℕ) (l : List Name) → NoDup l → All NameFits l → getD u s 0 ≡ 0 → s < length u → getD (numbered u k l) s 0 ≡ numberIn k (nameIn s) l
   unfolding numbered
   numbered-at u k [] once fits z low = z
   numbered-at u k (x ∷ l) once fits z low =
@@ -128,7 +128,7 @@ module _ (s : ℕ) (from : idsAt ≤ s) (to : s < idsEnd) where
       split (eqName (nameIn s) x)
       (λ e.
       let here-slot : slotOf x ≡ some s = ap slotOf (sym e) ∙ name-slot s from to in
-      numbered-other v (suc k) s l (λ y i g. once .0 (subst (λ (w : Name). In w l) (sym (slot-name y (all-in Fits l (fits .1) y i) s g) ∙ e) i))
+      numbered-other v (suc k) s l (λ y i g. once .0 (subst (λ (w : Name). In w l) (sym (slot-name y (all-in NameFits l (fits .1) y i) s g) ∙ e) i))
       ∙ ap (λ (o : Option ℕ). getD (putAt u k o) s 0) here-slot
       ∙ getD-set-same u s k 0 low
       ∙ sym (choose-yes {A = ℕ} (eqName (nameIn s) x) k (numberIn (suc k) (nameIn s) l) e))

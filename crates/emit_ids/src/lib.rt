@@ -19,7 +19,7 @@ ghost use Rattle.func.specs.Kinds.{asValue};
 ghost use Rattle.work.specs.Layout.{idsAt, idsEnd};
 ghost use Rattle.work.specs.Aside.{Aside};
 ghost use Rattle.blocks.specs.Laid.{Laid};
-ghost use Rattle.emit_ids.specs.Ids.{Blank, Ids, idIn, nextIn};
+ghost use Rattle.emit_ids.specs.Ids.{IdsBlank, Ids, idIn, nextIn};
 ghost use Rattle.emit_ids.specs.Later.{KnownValue, laterId};
 
 // The kinds of names that visited points have.
@@ -32,7 +32,7 @@ pub enum Kind {
 // The names of a function get new ids from `first` on, in their order: the next free id.
 pub fn number(func: &[u32], work: &mut [u32], m: usize, first: u32) -> u32
     requires { ⌜ Laid (now func) (now work) m ⌝ }
-    requires { ⌜ Blank (now work) ⌝ }
+    requires { ⌜ IdsBlank (now work) ⌝ }
     requires { ⌜ first ≤ highestId ⌝ }
     ensures { λ k. ⌜ k ≡ nextIn (funcOf (now (func .entry))) first ⌝ }
     ensures { λ _. ⌜ Ids (funcOf (now (func .entry))) first (now (work .exit)) ⌝ }

@@ -30,7 +30,7 @@ ghost use Rattle.terminators.specs.At.{pointAt};
 ghost use Rattle.terminators.specs.Visited.{Visited};
 ghost use Rattle.blocks.specs.Laid.{Laid};
 ghost use Rattle.emit_ids.specs.Names.{keyWord, kindNames, labelNames, opNames, opsNames, phiNames, resultNames};
-ghost use Rattle.emit_ids.specs.Numbered.{Gives, runWords};
+ghost use Rattle.emit_ids.specs.Numbered.{GivesIds, runWords};
 
 // A run of n names gets the ids from k on, the first one's in word s: the next id.
 pub fn give(work: &mut [u32], s: usize, k: u32, n: usize) -> u32
@@ -77,7 +77,7 @@ fn phi_word(func: &[u32], work: &[u32], m: usize, i: usize) -> usize
 fn phi_ids(func: &[u32], work: &mut [u32], m: usize, i: usize, k: u32) -> u32
     requires { ⌜ Laid (now func) (now work) m ⌝ }
     requires { ⌜ (i < m) × (k ≤ 4000000000) ⌝ }
-    ensures { λ x. ⌜ Gives (phiNames (funcOf (now (func .entry))) i) k (now (work .entry)) x (now (work .exit)) ⌝ }
+    ensures { λ x. ⌜ GivesIds (phiNames (funcOf (now (func .entry))) i) k (now (work .entry)) x (now (work .exit)) ⌝ }
 {
     let n = phi_count(func, work, m, i);
     let s = phi_word(func, work, m, i);
@@ -99,7 +99,7 @@ fn has_result(func: &[u32], o: usize) -> bool
 fn result_id(func: &[u32], work: &mut [u32], o: usize, k: u32) -> u32
     requires { ⌜ Tables (now func) ⌝ }
     requires { ⌜ (workNeed ≤ length (now work)) × (k < 4294967295) ⌝ }
-    ensures { λ x. ⌜ Gives (opNames (funcOf (now (func .entry))) o) k (now (work .entry)) x (now (work .exit)) ⌝ }
+    ensures { λ x. ⌜ GivesIds (opNames (funcOf (now (func .entry))) o) k (now (work .entry)) x (now (work .exit)) ⌝ }
 {
     if has_result(func, o) {
         return give(work, RESULT_IDS + o, k, 1);
@@ -112,7 +112,7 @@ fn op_ids(func: &[u32], work: &mut [u32], n: usize, first: u32) -> u32
     requires { ⌜ Tables (now func) ⌝ }
     requires { ⌜ n < length (funcOf (now func) .nodes) ⌝ }
     requires { ⌜ (workNeed ≤ length (now work)) × (first ≤ 4000000000) ⌝ }
-    ensures { λ x. ⌜ Gives (opsNames (funcOf (now (func .entry))) (blockOps (nodeOf (funcOf (now (func .entry))) n))) first (now (work .entry)) x (now (work .exit)) ⌝ }
+    ensures { λ x. ⌜ GivesIds (opsNames (funcOf (now (func .entry))) (blockOps (nodeOf (funcOf (now (func .entry))) n))) first (now (work .entry)) x (now (work .exit)) ⌝ }
 {
     let count = node_op_count(func, n);
     let mut k = first;
@@ -129,7 +129,7 @@ fn op_ids(func: &[u32], work: &mut [u32], n: usize, first: u32) -> u32
 fn result_ids(func: &[u32], work: &mut [u32], m: usize, i: usize, k: u32) -> u32
     requires { ⌜ Laid (now func) (now work) m ⌝ }
     requires { ⌜ (i < m) × (k ≤ 4000000000) ⌝ }
-    ensures { λ x. ⌜ Gives (resultNames (funcOf (now (func .entry))) i) k (now (work .entry)) x (now (work .exit)) ⌝ }
+    ensures { λ x. ⌜ GivesIds (resultNames (funcOf (now (func .entry))) i) k (now (work .entry)) x (now (work .exit)) ⌝ }
 {
     if word(work, STATUSES, i) == 0 {
         return k;
@@ -147,7 +147,7 @@ fn result_ids(func: &[u32], work: &mut [u32], m: usize, i: usize, k: u32) -> u32
 fn label_ids(func: &[u32], work: &mut [u32], m: usize, i: usize, k: u32) -> u32
     requires { ⌜ Laid (now func) (now work) m ⌝ }
     requires { ⌜ (i < m) × (k ≤ 4000000000) ⌝ }
-    ensures { λ x. ⌜ Gives (labelNames (funcOf (now (func .entry))) i) k (now (work .entry)) x (now (work .exit)) ⌝ }
+    ensures { λ x. ⌜ GivesIds (labelNames (funcOf (now (func .entry))) i) k (now (work .entry)) x (now (work .exit)) ⌝ }
 {
     let q = number(work, POINTS, i);
     if number(work, STATUSES, i) == q + 1 {
@@ -160,7 +160,7 @@ fn label_ids(func: &[u32], work: &mut [u32], m: usize, i: usize, k: u32) -> u32
 fn ids_at(func: &[u32], work: &mut [u32], m: usize, kind: Kind, i: usize, k: u32) -> u32
     requires { ⌜ Laid (now func) (now work) m ⌝ }
     requires { ⌜ (i < m) × (k ≤ 4000000000) ⌝ }
-    ensures { λ x. ⌜ Gives (kindNames (funcOf (now (func .entry))) kind i) k (now (work .entry)) x (now (work .exit)) ⌝ }
+    ensures { λ x. ⌜ GivesIds (kindNames (funcOf (now (func .entry))) kind i) k (now (work .entry)) x (now (work .exit)) ⌝ }
 {
     match kind {
         Kind::Phis => phi_ids(func, work, m, i, k),
@@ -173,7 +173,7 @@ fn ids_at(func: &[u32], work: &mut [u32], m: usize, kind: Kind, i: usize, k: u32
 pub fn all_ids(func: &[u32], work: &mut [u32], m: usize, kind: Kind, first: u32) -> u32
     requires { ⌜ Laid (now func) (now work) m ⌝ }
     requires { ⌜ first ≤ 1000000000 ⌝ }
-    ensures { λ x. ⌜ Gives (upTo (kindNames (funcOf (now (func .entry))) kind) m) first (now (work .entry)) x (now (work .exit)) ⌝ }
+    ensures { λ x. ⌜ GivesIds (upTo (kindNames (funcOf (now (func .entry))) kind) m) first (now (work .entry)) x (now (work .exit)) ⌝ }
 {
     let mut k = first;
     let mut i = 0;

@@ -15,8 +15,8 @@ use Rattle.lifting.specs.Points.{CfgPoint, nodeEntry, nodeExit, regionEntry, re
 use Rattle.lifting.specs.Walk.{Place, always, childTerm, exitTerm, inBlock, inNode, loopTerm, rootTerm, top, walkOf}
 use Rattle.lifting.specs.Absorb.{mergeLabels}
 use Rattle.func.specs.Decode.{funcOf}
-use Rattle.laws.specs.Members.{All, In, all-from, all-in, in-left, in-right}
-use Rattle.laws.specs.Tests.{all-split, in-at}
+use Rattle.general_laws.specs.Members.{All, In, all-from, all-in, in-left, in-right}
+use Rattle.general_laws.specs.Tests.{all-split, in-at}
 use Rattle.lifting_runs.specs.Refers.{Named, Refers}
 use Rattle.walk_points.specs.Numbers.{Small}
 use Rattle.walk_points.specs.Walk.{Walkable}

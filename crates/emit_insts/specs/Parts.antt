@@ -6,10 +6,10 @@ use mathlib.Core.List.{List, [], _∷_, _++_, map, append-assoc, append-nil}
 use Prim.Native.Nat.{ℕ, zero, suc, _+_}
 use native.Mathlib.Omega.{arith}
 use lib.ListN.{getD, length, length-append, length-map}
-use Rattle.laws.specs.Gather.{map-append}
+use Rattle.general_laws.specs.Gather.{map-append}
 use Rattle.opcodes.specs.Table.{opcodeOf}
 use Rattle.opcodes.specs.declared.InstKind.the-variants.{Label, LoopMerge, Phi, SelectionMerge}
-use Rattle.laws.specs.Lists.{gather}
+use Rattle.general_laws.specs.Lists.{gather}
 use Rattle.lifting.specs.Ast.{Decl, Func, Imm, Value}
 use Rattle.lifting.specs.Parts.{calleeIds, opOf}
 use Rattle.lifting.specs.Points.{CfgPoint, Merge, Table, Terminator, loopMerge, noMerge, regionEntry, selectionMerge}

@@ -24,7 +24,7 @@ use Rattle.terminators.specs.Visited.{Visited}
 use Rattle.blocks.specs.Laid.{Laid}
 use Rattle.emit_ids.specs.Ids.{Ids}
 
-pub record Ready (w u : List ℕ) (m first : ℕ) : Type 0 where
+pub record EmitReady (w u : List ℕ) (m first : ℕ) : Type 0 where
   pub laid : Laid w u m
   pub stands : Stands (funcOf w) w
   pub ids : Ids (funcOf w) first u
@@ -33,7 +33,7 @@ pub record Ready (w u : List ℕ) (m first : ℕ) : Type 0 where
 pub few-ops : {w : List ℕ} → Tables w → length (funcOf w .ops) ≤ 512
 few-ops t = omega (arith, op-total t, t .counts ops (lit< tt))
 
-module _ {w u : List ℕ} {m first : ℕ} (k : Ready w u m first) where
+module _ {w u : List ℕ} {m first : ℕ} (k : EmitReady w u m first) where
   pub ready-visited : (i : ℕ) → i < m → Visited w u m
   ready-visited i h = k .laid .walked (omega arith)
 

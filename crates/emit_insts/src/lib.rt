@@ -21,13 +21,13 @@ ghost use mathlib.Core.Path.{_≡_};
 ghost use mathlib.Core.Bool.{true};
 ghost use Prim.Native.Nat.{_+_, _≤_, _<_};
 ghost use lib.ListN.{getD, length};
-ghost use Rattle.laws.specs.Lists.{gather};
+ghost use Rattle.general_laws.specs.Lists.{gather};
 ghost use Rattle.lifting.specs.References.{named};
 ghost use Rattle.func.specs.Decode.{funcOf};
 ghost use Rattle.func.specs.Kinds.{asImm, asValue};
 ghost use Rattle.func.specs.Tables.{Tables};
 ghost use Rattle.work.specs.Layout.{labelIdsAt, workNeed};
-ghost use Rattle.laws.specs.Members.{All};
+ghost use Rattle.general_laws.specs.Members.{All};
 ghost use Rattle.lifting_runs.specs.Refers.{Named};
 ghost use Rattle.walk_points.specs.Numbers.{Small};
 ghost use Rattle.emit_ids.specs.Ids.{idIn};
@@ -35,7 +35,7 @@ ghost use Rattle.terminators.specs.Kinds.{Known, termOf};
 ghost use Rattle.emit_words.specs.Put.{Put};
 ghost use Rattle.emit_lists.specs.Named.{ImmsFit, ValuesFit, immsOf, valuesOf};
 ghost use Rattle.emit_insts.specs.Parts.{frontItems, immItems, labelsIn, valuesIn};
-ghost use Rattle.emit_insts.specs.Ready.{Ready};
+ghost use Rattle.emit_insts.specs.Ready.{EmitReady};
 
 // Appends an immediate.
 fn put_imm(out: &mut [u32], c: Cursor, m: Immediate) -> Cursor
@@ -94,7 +94,7 @@ pub fn put_front(
 
 // The id of a value.
 pub fn id_of(func: &[u32], work: &[u32], m: usize, first: u32, v: Val) -> u32
-    requires { ⌜ Ready (now func) (now work) m first ⌝ }
+    requires { ⌜ EmitReady (now func) (now work) m first ⌝ }
     requires { ⌜ 0 < m ⌝ }
     requires { ⌜ named (funcOf (now func)) (asValue v) ≡ true ⌝ }
     ensures { λ x. ⌜ x ≡ idIn (funcOf (now (func .entry))) first (asValue v) ⌝ }
@@ -112,7 +112,7 @@ pub fn put_values(
     first: u32,
     l: Values,
 ) -> Cursor
-    requires { ⌜ Ready (now func) (now work) m first ⌝ }
+    requires { ⌜ EmitReady (now func) (now work) m first ⌝ }
     requires { ⌜ 0 < m ⌝ }
     requires { ⌜ ValuesFit (funcOf (now func)) l × All (Named (funcOf (now func))) (valuesOf (funcOf (now func)) l) ⌝ }
     ensures { λ r. ⌜ Put (now (out .entry)) c (valuesIn (funcOf (now (func .entry))) first (valuesOf (funcOf (now (func .entry))) l)) (now (out .exit)) r ⌝ }
@@ -145,7 +145,7 @@ pub fn put_targets(
     first: u32,
     w: TermKind,
 ) -> Cursor
-    requires { ⌜ Ready (now func) (now work) m first ⌝ }
+    requires { ⌜ EmitReady (now func) (now work) m first ⌝ }
     requires { ⌜ Known (now func) w × All Small (termOf (funcOf (now func)) w .targets) ⌝ }
     ensures { λ r. ⌜ Put (now (out .entry)) c (labelsIn (funcOf (now (func .entry))) first (termOf (funcOf (now (func .entry))) w .targets)) (now (out .exit)) r ⌝ }
 {

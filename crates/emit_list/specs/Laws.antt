@@ -30,7 +30,7 @@ absorbs-false true n = absurd (n refl)
 absorbs-false false n = refl
 
 -- a point that stands in a kept block, but not at its start
-pub goes-on : (s : Status) → ¬ (s ≡ gone) → ¬ (s ≡ starts) → (h : CfgPoint) × (s ≡ goes h)
-goes-on gone n z = absurd (n refl)
-goes-on starts n z = absurd (z refl)
-goes-on (goes h) n z = (h, refl)
+pub goes-with : (s : Status) → ¬ (s ≡ gone) → ¬ (s ≡ starts) → (h : CfgPoint) × (s ≡ goes h)
+goes-with gone n z = absurd (n refl)
+goes-with starts n z = absurd (z refl)
+goes-with (goes h) n z = (h, refl)

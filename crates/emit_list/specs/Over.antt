@@ -11,10 +11,10 @@ use Rattle.func.specs.Decode.{funcOf}
 use Rattle.lifting_runs.specs.Shaped.{Shaped, shaped-checked}
 use Rattle.check_text.specs.Same.{Passes}
 use Rattle.emit_edges.specs.Links.{Linked}
-use Rattle.emit_insts.specs.Ready.{Ready}
+use Rattle.emit_insts.specs.Ready.{EmitReady}
 
 pub record Over (w u : List ℕ) (m first : ℕ) : Type 0 where
-  pub ready : Ready w u m first
+  pub ready : EmitReady w u m first
   pub linked : Linked (funcOf w) u
 
 pub shaped-passes : (F : Func) → Passes F → hasBody (F .regions) ≡ true → Shaped F

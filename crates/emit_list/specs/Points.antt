@@ -10,18 +10,18 @@ use native.Mathlib.Nat.{add-suc, add-zero, suc-add, zero-add}
 use lib.ListN.{getD, length}
 use Rattle.opcodes.specs.Table.{opcodeOf}
 use Rattle.opcodes.specs.declared.InstKind.the-variants.{Function, FunctionEnd, FunctionParameter}
-use Rattle.laws.specs.Lists.{gather}
+use Rattle.general_laws.specs.Lists.{gather}
 use Rattle.lifting.specs.Ast.{Decl, Func, Region, Value}
 use Rattle.lifting.specs.Parts.{hasBody}
 use Rattle.lifting.specs.Points.{BlockLifting, CfgPoint, Table, Terminator}
 use Rattle.lifting.specs.Walk.{walkOf}
 use Rattle.lifting.specs.Absorb.{absorb, kept, useCount}
 use Rattle.lifting.specs.Instructions.{Instruction, blockInsts, endInst, functionControl, functionInst, instructions, labelInst, listOf, mergeInsts, opInst, paramInst, paramInsts, phiInsts, short, termInst}
-use Rattle.lifting_blocks.specs.Flat.{Status, goes, gone, noPair, part, partAt, starts, unlessGlued, upTo}
+use Rattle.lifting_blocks.specs.Flat.{Status, goes, gone, noPair, part, partAt, starts, unlessAbsorbs, upTo}
 use Rattle.lifting_blocks.specs.FlatLaws.{gather-upTo, upTo-same}
 use Rattle.lifting_blocks.specs.ListFlat.{writing}
 use Rattle.lifting_blocks.specs.Laws as flat
-use Rattle.laws.specs.Gather.{gather-append}
+use Rattle.general_laws.specs.Gather.{gather-append}
 use Rattle.lifting_runs.specs.Shaped.{Shaped}
 use Rattle.lifting_runs.specs.EveryText.{walk-none}
 use Rattle.terminators.specs.At.{blockAt, pointAt}
@@ -76,14 +76,14 @@ module _ (F : Func) (first : ℕ) where
   ops-items [] = refl
   ops-items (i ∷ is) = ap (λ (l : List Item). opIn F first i ++ l) (ops-items is)
 
-  end-items : (g : Bool) (p : CfgPoint) (t : Terminator) → listItems (unlessGlued (writing F first T K) g (writing F first T K .end p t)) ≡ endIf g t
+  end-items : (g : Bool) (p : CfgPoint) (t : Terminator) → listItems (unlessAbsorbs (writing F first T K) g (writing F first T K .end p t)) ≡ endIf g t
   unfolding listItems
   end-items true p t = refl
   end-items false p t =
       list-append (mergeInsts F first T K (t .merge)) (termInst F first T K t ∷ []) ∙ ap (λ (l : List Item). mergeIn F first (t .merge) ++ l) (list-last (termInst F first T K t))
 
   body-items : (g : Bool) (p : CfgPoint) (x : BlockLifting)
-      → listItems (gather (writing F first T K .op) (x .ops) ++ unlessGlued (writing F first T K) g (writing F first T K .end p (x .term))) ≡ gather (opIn F first) (x .ops) ++ endIf g (x .term)
+      → listItems (gather (writing F first T K .op) (x .ops) ++ unlessAbsorbs (writing F first T K) g (writing F first T K .end p (x .term))) ≡ gather (opIn F first) (x .ops) ++ endIf g (x .term)
   body-items g p x =
       list-append (gather (writing F first T K .op) (x .ops)) _ ∙ ap₂ (λ (a b : List Item). a ++ b) (ops-items (x .ops)) (end-items g p (x .term))
 

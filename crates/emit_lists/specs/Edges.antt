@@ -17,7 +17,7 @@ use Rattle.lifting.specs.Walk.{Place, entryDecls, entryKeys, inBlock, inNode, s
 use Rattle.func.specs.Decode.{funcOf}
 use Rattle.func.specs.Tables.{ctrlLine, list-count, node-values}
 use Rattle.func.specs.Kinds.{declFrom}
-use Rattle.laws.specs.Members.{length-tabulate}
+use Rattle.general_laws.specs.Members.{length-tabulate}
 use Rattle.terminators.specs.At.{blockAt, blockOf, placeIn, pointAt}
 use Rattle.terminators.specs.Visited.{Visited}
 use Rattle.terminators.specs.declared.TermKind.{TermKind}

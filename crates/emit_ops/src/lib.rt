@@ -20,7 +20,7 @@ use work::word;
 ghost use mathlib.Core.Path.{_≡_};
 ghost use Prim.Native.Nat.{_+_, _≤_, _<_};
 ghost use lib.ListN.{length};
-ghost use Rattle.laws.specs.Lists.{gather};
+ghost use Rattle.general_laws.specs.Lists.{gather};
 ghost use Rattle.lifting.specs.Parts.{blockOps, nodeOf};
 ghost use Rattle.lifting.specs.Instructions.{resultId};
 ghost use Rattle.lifting.specs.Walk.{walkOf};
@@ -30,11 +30,11 @@ ghost use Rattle.terminators.specs.At.{blockAt};
 ghost use Rattle.emit_words.specs.Put.{Put};
 ghost use Rattle.emit_lists.specs.Named.{calleeOf};
 ghost use Rattle.emit_insts.specs.Parts.{idEach, opFront, opIn};
-ghost use Rattle.emit_insts.specs.Ready.{Ready};
+ghost use Rattle.emit_insts.specs.Ready.{EmitReady};
 
 // The result id of op o, 0 where its type is 0.
 fn result_of(func: &[u32], work: &[u32], m: usize, first: u32, o: usize, ty: u32) -> u32
-    requires { ⌜ Ready (now func) (now work) m first ⌝ }
+    requires { ⌜ EmitReady (now func) (now work) m first ⌝ }
     requires { ⌜ o < length (funcOf (now func) .ops) ⌝ }
     ensures { λ x. ⌜ x ≡ resultId (funcOf (now (func .entry))) first (walkOf (funcOf (now (func .entry)))) (kept (walkOf (funcOf (now (func .entry))))) ty o ⌝ }
 {
@@ -76,7 +76,7 @@ fn op_front(
     o: usize,
     ids: usize,
 ) -> Cursor
-    requires { ⌜ Ready (now func) (now work) m first ⌝ }
+    requires { ⌜ EmitReady (now func) (now work) m first ⌝ }
     requires { ⌜ (o < length (funcOf (now func) .ops)) × (ids ≤ 65535) ⌝ }
     ensures { λ r. ⌜ Put (now (out .entry)) c (opFront (funcOf (now (func .entry))) first (walkOf (funcOf (now (func .entry)))) (kept (walkOf (funcOf (now (func .entry))))) o ids) (now (out .exit)) r ⌝ }
 {
@@ -106,7 +106,7 @@ fn put_op(
     first: u32,
     o: usize,
 ) -> Cursor
-    requires { ⌜ Ready (now func) (now work) m first ⌝ }
+    requires { ⌜ EmitReady (now func) (now work) m first ⌝ }
     requires { ⌜ (0 < m) × (o < length (funcOf (now func) .ops)) ⌝ }
     ensures { λ r. ⌜ Put (now (out .entry)) c (opIn (funcOf (now (func .entry))) first o) (now (out .exit)) r ⌝ }
 {
@@ -128,7 +128,7 @@ fn put_node_ops(
     first: u32,
     n: usize,
 ) -> Cursor
-    requires { ⌜ Ready (now func) (now work) m first ⌝ }
+    requires { ⌜ EmitReady (now func) (now work) m first ⌝ }
     requires { ⌜ (0 < m) × (n < length (funcOf (now func) .nodes)) ⌝ }
     ensures { λ r. ⌜ Put (now (out .entry)) c (gather (opIn (funcOf (now (func .entry))) first) (blockOps (nodeOf (funcOf (now (func .entry))) n))) (now (out .exit)) r ⌝ }
 {
@@ -152,7 +152,7 @@ pub fn put_ops(
     first: u32,
     i: usize,
 ) -> Cursor
-    requires { ⌜ Ready (now func) (now work) m first ⌝ }
+    requires { ⌜ EmitReady (now func) (now work) m first ⌝ }
     requires { ⌜ i < m ⌝ }
     ensures { λ r. ⌜ Put (now (out .entry)) c (gather (opIn (funcOf (now (func .entry))) first) (blockAt (funcOf (now (func .entry))) i .ops)) (now (out .exit)) r ⌝ }
 {

@@ -10,13 +10,13 @@ use mathlib.Core.List.{List, [], _∷_, _++_, append-nil}
 use Prim.Native.Nat.{ℕ, _+_, _-_, _*_, _≤_, _<_}
 use native.Mathlib.Omega.{arith}
 use lib.ListN.{getD, length}
-use Rattle.laws.specs.Lists.{gather}
+use Rattle.general_laws.specs.Lists.{gather}
 use Rattle.lifting.specs.Ast.{Func, Value, const}
 use Rattle.lifting.specs.Points.{CfgPoint}
 use Rattle.lifting.specs.Walk.{walkOf}
 use Rattle.func.specs.Decode.{funcOf}
-use Rattle.laws.specs.Gather.{gather-append}
-use Rattle.laws.specs.Members.{In, all-in, in-getD}
+use Rattle.general_laws.specs.Gather.{gather-append}
+use Rattle.general_laws.specs.Members.{In, all-in, in-getD}
 use Rattle.lifting_runs.specs.Refers.{Named, refers}
 use Rattle.work.specs.Layout.{statusesAt}
 use Rattle.lifting_blocks.specs.Flat.{gone}
@@ -28,7 +28,7 @@ use Rattle.emit_words.specs.declared.Cursor.{Cursor}
 use Rattle.emit_words.specs.Put.{Item, Put, lastPlace, put-more, put-none, put-same}
 use Rattle.emit_edges.specs.Ends.{edgesInto, head-word, headAt}
 use Rattle.emit_edges.specs.Links.{Chained, Rest, nextAt, originAt, rest-done, rest-next}
-use Rattle.emit_insts.specs.Ready.{Ready, ready-visited}
+use Rattle.emit_insts.specs.Ready.{EmitReady, ready-visited}
 use Rattle.emit_phis.specs.Keys.{key-is, key-named, keyOf}
 use Rattle.emit_phis.specs.Along.{FirstInto, along-count, along-named, alongEdge, origin-low}
 use Rattle.emit_phis.specs.Items.{pairIn, pairs-count, pairs-edges, pairsIn, pairsOf}
@@ -37,7 +37,7 @@ pub key-here : {w u : List ℕ} {m : ℕ} → Visited w u m → (i : ℕ) → i 
     → keyOf (funcOf w) p j ≡ getD (blockAt (funcOf w) i .keys) j (const 0)
 key-here {w} k i h j l e = ap (λ (q : CfgPoint). keyOf (funcOf w) q j) e ∙ sym (key-is (funcOf w) j (k .walkable) i (omega (arith, k .count)) l)
 
-module _ {w u : List ℕ} {m first : ℕ} (k : Ready w u m first) where
+module _ {w u : List ℕ} {m first : ℕ} (k : EmitReady w u m first) where
   abbrev F : Func
   F = funcOf w
 

@@ -9,15 +9,15 @@ use mathlib.Core.Option.{Option, none, some}
 use Prim.Native.Nat.{ℕ, zero, suc, _<_}
 use native.Mathlib.Omega.{arith}
 use lib.ListN.{getD, length}
-use Rattle.laws.specs.Lists.{choose-no, choose-yes, find, gather, keys}
+use Rattle.general_laws.specs.Lists.{choose-no, choose-yes, find, gather, keys}
 use Rattle.lifting.specs.Ast.{ControlInst, Func, Node, Value, block, exit, loop, select}
 use Rattle.lifting.specs.Parts.{ctrlOf, nodeOf, nodeValues, regionOf, valsOr}
 use Rattle.lifting.specs.Control.{controlFits}
 use Rattle.lifting.specs.Points.{BlockLifting, CfgPoint, Table, Terminator, eqPoint, nodeEntry, nodeExit, regionEntry, regionExit}
 use Rattle.lifting.specs.Walk.{Place, always, childTerm, exitTerm, inBlock, inNode, loopTerm, rootTerm, someVals, top, walkOf}
 use Rattle.func.specs.Decode.{funcOf}
-use Rattle.laws.specs.Members.{All, In, NoDup, in-getD}
-use Rattle.laws.specs.Tests.{all-split}
+use Rattle.general_laws.specs.Members.{All, In, NoDup, in-getD}
+use Rattle.general_laws.specs.Tests.{all-split}
 use Rattle.lifting_runs.specs.Refers.{Named, Refers}
 use Rattle.lifting_runs.specs.Tour.{find-unique, unique-of}
 use Rattle.lifting_blocks.specs.Flat.{Status, goes, gone, noPair, starts}

@@ -10,14 +10,14 @@ use native.Mathlib.Omega.{arith}
 use lib.ListN.{getD, length}
 use Rattle.opcodes.specs.Table.{opcodeOf}
 use Rattle.opcodes.specs.declared.InstKind.the-variants.{Phi}
-use Rattle.laws.specs.Lists.{gather}
+use Rattle.general_laws.specs.Lists.{gather}
 use Rattle.lifting.specs.Ast.{Decl, Func, Value, const}
 use Rattle.lifting.specs.Control.{controlFits}
 use Rattle.lifting.specs.Points.{CfgPoint, Table}
 use Rattle.lifting.specs.Walk.{walkOf}
 use Rattle.lifting.specs.Absorb.{kept}
 use Rattle.lifting.specs.Instructions.{pairs, phiInst, phiInsts}
-use Rattle.laws.specs.Gather.{map-gather}
+use Rattle.general_laws.specs.Gather.{map-gather}
 use Rattle.func.specs.Kinds.{declFrom}
 use Rattle.lifting_runs.specs.Shaped.{Shaped}
 use Rattle.lifting_blocks.specs.Flat.{upTo}

@@ -8,12 +8,12 @@ use Prim.Native.Nat.{ℕ, zero, suc, _+_, _<_}
 use native.Mathlib.Omega.{arith}
 use lib.ListN.{getD, length}
 use borrow.Author.Tests.{lt-ltb}
-use Rattle.laws.specs.Lists.{tabulate}
+use Rattle.general_laws.specs.Lists.{tabulate}
 use Rattle.lifting.specs.Ast.{Func, Node, Value, block, const, exit, loop, nodeOutput, regionInput, select}
 use Rattle.lifting.specs.Parts.{childrenOf, nodeOf, outsOf, regionOf}
 use Rattle.lifting.specs.Points.{BlockLifting, CfgPoint, nodeEntry, nodeExit, regionEntry, regionExit}
 use Rattle.lifting.specs.Walk.{Place, entryKeys, inBlock, inNode, top, walkOf}
-use Rattle.laws.specs.Members.{length-tabulate}
+use Rattle.general_laws.specs.Members.{length-tabulate}
 use Rattle.lifting_runs.specs.Refers.{Named}
 use Rattle.walk_points.specs.Numbers.{getD-tabulate}
 use Rattle.walk_points.specs.Walk.{Walkable}

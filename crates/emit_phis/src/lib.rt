@@ -22,7 +22,7 @@ ghost use Rattle.terminators.specs.At.{blockAt, pointAt};
 ghost use Rattle.emit_words.specs.Put.{Put};
 ghost use Rattle.emit_edges.specs.Ends.{edgesInto};
 ghost use Rattle.emit_edges.specs.Links.{Linked};
-ghost use Rattle.emit_insts.specs.Ready.{Ready};
+ghost use Rattle.emit_insts.specs.Ready.{EmitReady};
 ghost use Rattle.emit_phis.specs.Along.{FirstInto};
 ghost use Rattle.emit_phis.specs.Items.{phiIn, phisIn};
 
@@ -39,7 +39,7 @@ fn put_phi(
     h: usize,
     ids: usize,
 ) -> Cursor
-    requires { ⌜ Ready (now func) (now work) m first ⌝ }
+    requires { ⌜ EmitReady (now func) (now work) m first ⌝ }
     requires { ⌜ Linked (funcOf (now func)) (now work) ⌝ }
     requires { ⌜ (i < m) × (j < length (blockAt (funcOf (now func)) i .keys)) ⌝ }
     requires { ⌜ FirstInto (funcOf (now func)) (now work) i h ⌝ }
@@ -72,7 +72,7 @@ pub fn put_phis(
     first: u32,
     i: usize,
 ) -> Cursor
-    requires { ⌜ Ready (now func) (now work) m first ⌝ }
+    requires { ⌜ EmitReady (now func) (now work) m first ⌝ }
     requires { ⌜ Linked (funcOf (now func)) (now work) ⌝ }
     requires { ⌜ i < m ⌝ }
     ensures { λ r. ⌜ Put (now (out .entry)) c (phisIn (funcOf (now (func .entry))) first i) (now (out .exit)) r ⌝ }

@@ -15,7 +15,7 @@ ghost use mathlib.Core.Path.{_≡_};
 ghost use Prim.Native.Nat.{_*_, _≤_, _<_};
 ghost use lib.ListN.{length};
 ghost use Rattle.func.specs.Decode.{funcOf};
-ghost use Rattle.laws.specs.Members.{In};
+ghost use Rattle.general_laws.specs.Members.{In};
 ghost use Rattle.lifting_blocks.specs.Flat.{gone};
 ghost use Rattle.terminators.specs.At.{blockAt, pointAt};
 ghost use Rattle.terminators.specs.Visited.{Visited};
@@ -24,13 +24,13 @@ ghost use Rattle.emit_ids.specs.Ids.{labelIn};
 ghost use Rattle.emit_words.specs.Put.{Put};
 ghost use Rattle.emit_edges.specs.Ends.{edgesInto, headAt};
 ghost use Rattle.emit_edges.specs.Links.{Chained, Linked, chain};
-ghost use Rattle.emit_insts.specs.Ready.{Ready};
+ghost use Rattle.emit_insts.specs.Ready.{EmitReady};
 ghost use Rattle.emit_phis.specs.Along.{FirstInto};
 ghost use Rattle.emit_phis.specs.Items.{pairIn, pairsIn};
 
 // The label of the kept block in which the p-th visited point stands.
 fn block_label(func: &[u32], work: &[u32], m: usize, first: u32, p: usize) -> u32
-    requires { ⌜ Ready (now func) (now work) m first ⌝ }
+    requires { ⌜ EmitReady (now func) (now work) m first ⌝ }
     requires { ⌜ p < m ⌝ }
     requires { ⌜ ¬ (stands (funcOf (now func)) p ≡ gone) ⌝ }
     ensures { λ x. ⌜ x ≡ labelIn (funcOf (now (func .entry))) first (headAt (funcOf (now (func .entry))) p) ⌝ }
@@ -51,7 +51,7 @@ fn put_pair(
     p: usize,
     e: usize,
 ) -> Cursor
-    requires { ⌜ Ready (now func) (now work) m first ⌝ }
+    requires { ⌜ EmitReady (now func) (now work) m first ⌝ }
     requires { ⌜ (i < m) × (j < length (blockAt (funcOf (now func)) i .keys)) ⌝ }
     requires { ⌜ In (p, e) (edgesInto (funcOf (now func)) (pointAt (funcOf (now func)) i) 0) ⌝ }
     ensures { λ r. ⌜ Put (now (out .entry)) c (pairIn (funcOf (now (func .entry))) first i j (p, e)) (now (out .exit)) r ⌝ }
@@ -99,7 +99,7 @@ pub fn put_pairs(
     j: usize,
     h: usize,
 ) -> Cursor
-    requires { ⌜ Ready (now func) (now work) m first ⌝ }
+    requires { ⌜ EmitReady (now func) (now work) m first ⌝ }
     requires { ⌜ Linked (funcOf (now func)) (now work) ⌝ }
     requires { ⌜ (i < m) × (j < length (blockAt (funcOf (now func)) i .keys)) ⌝ }
     requires { ⌜ FirstInto (funcOf (now func)) (now work) i h ⌝ }

@@ -8,7 +8,7 @@ use native.Mathlib.Omega.{arith}
 use lib.Dec.{ltb}
 use lib.ListN.{length}
 use borrow.Author.Tests.{lt-ltb}
-use Rattle.laws.specs.Lists.{every, gather}
+use Rattle.general_laws.specs.Lists.{every, gather}
 use Rattle.lifting.specs.Instructions.{Instruction}
 use Rattle.lifting.specs.Words.{immWords, instWords, words}
 use Rattle.emit_words.specs.Put.{Item, anyMissing, id, isZero, missing-append, word, words-append, words-length, wordsOf}

@@ -15,7 +15,7 @@ use lib.Dec.{leb}
 use lib.ListN.{length, set, length-append, length-set}
 use lib.Seq.{sets, length-sets}
 use borrow.Author.Tests.{leb-true, leb-false}
-use Rattle.laws.specs.Part.{sets-sets}
+use Rattle.general_laws.specs.Part.{sets-sets}
 use Rattle.lifting_blocks.specs.Flat.{upTo}
 use Rattle.emit_words.specs.declared.Cursor.{Cursor}
 

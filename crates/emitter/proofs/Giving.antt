@@ -11,7 +11,7 @@ use lib.Dec.{leb, ltb}
 use lib.ListN.{drop, length}
 use Rattle.refusals.specs.declared.Refusal.the-variants.{Ids, Values, Output}
 use Rattle.refusals.specs.Numbers.{refusalNumber}
-use Rattle.laws.specs.Lists.{every}
+use Rattle.general_laws.specs.Lists.{every}
 use Rattle.lifting.specs.Ast.{Func}
 use Rattle.lifting.specs.Parts.{ids}
 use Rattle.lifting.specs.Limits.{highestId}

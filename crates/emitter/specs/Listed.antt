@@ -11,7 +11,7 @@ use lib.Dec.{leb, ltb}
 use lib.ListN.{drop, length}
 use lib.Seq.{sets, sets-eq}
 use borrow.Author.Tests.{lt-ltb, le-leb, lt-leb, leb-true, leb-false}
-use Rattle.laws.specs.Lists.{every}
+use Rattle.general_laws.specs.Lists.{every}
 use Rattle.lifting.specs.Ast.{Decl, Func, Region}
 use Rattle.lifting.specs.Parts.{hasBody, requiredIds}
 use Rattle.lifting.specs.Points.{Table}
@@ -20,7 +20,7 @@ use Rattle.lifting.specs.Absorb.{absorb, kept}
 use Rattle.lifting.specs.Instructions.{Instruction, blockInsts, endInst, functionInst, instructions, listOf, paramInst, paramInsts}
 use Rattle.lifting.specs.Words.{words}
 use Rattle.lifting.specs.Answer.{idsFit, isSet, usedValues, valuesSet}
-use Rattle.laws.specs.Members.{all-in, here, there}
+use Rattle.general_laws.specs.Members.{all-in, here, there}
 use Rattle.lifting_runs.specs.Refers.{Refers, refers}
 use Rattle.lifting_runs.specs.Fits as fits
 use Rattle.lifting_runs.specs.Shaped.{shaped-checked}

@@ -21,7 +21,7 @@ ghost use Rattle.work.specs.Layout.{workNeed};
 ghost use Rattle.check_text.specs.Same.{Stands};
 ghost use Rattle.blocks.specs.Laid.{Laid};
 ghost use Rattle.emit_edges.specs.Links.{Unlinked};
-ghost use Rattle.emit_ids.specs.Ids.{Blank, nextIn};
+ghost use Rattle.emit_ids.specs.Ids.{IdsBlank, nextIn};
 ghost use Rattle.emitter.specs.Emit.{Gives, Wants, emitted};
 ghost use Rattle.emit_list.specs.Over.{Over};
 ghost use mathlib.Core.Bool.{true};
@@ -37,7 +37,7 @@ fn lay(func: &[u32], work: &mut [u32]) -> usize
     requires { ⌜ Stands (funcOf (now func)) (now func) ⌝ }
     requires { ⌜ (workNeed ≤ length (now work)) × (now work ≡ replicate (length (now work)) 0) ⌝ }
     ensures { λ m. ⌜ Laid (now (func .entry)) (now (work .exit)) m ⌝ }
-    ensures { λ _. ⌜ Blank (now (work .exit)) ⌝ }
+    ensures { λ _. ⌜ IdsBlank (now (work .exit)) ⌝ }
     ensures { λ _. ⌜ Unlinked (now (work .exit)) ⌝ }
     ensures { λ _. ⌜ length (now (work .exit)) ≡ length (now (work .entry)) ⌝ }
 {

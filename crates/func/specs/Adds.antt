@@ -11,12 +11,12 @@ use native.Mathlib.Omega.{arith}
 use lib.Dec.{eqb}
 use lib.ListN.{length, getD, length-append}
 use borrow.Author.Tests.{eqb-true, eqb-false}
-use Rattle.laws.specs.Lists.{gather}
+use Rattle.general_laws.specs.Lists.{gather}
 use Rattle.func.specs.Layout.{funcNeed, poolTotal, width, room}
 use Rattle.func.specs.Store.{count, most, view, push, folds, length-push, head-push, count-push, count-other, most-push, most-other, view-push, view-other}
 
 -- words that can be stored to: long enough, and no count over its room by more than one
-pub record Ready (w : List ℕ) : Type 0 where
+pub record AddsReady (w : List ℕ) : Type 0 where
   pub size : funcNeed ≤ length w
   pub counts : (k : ℕ) → k < poolTotal → count k w ≤ room k + 1
 
@@ -36,7 +36,7 @@ pub record Adds (w v : List ℕ) (g : ℕ → List (List ℕ)) : Type 0 where
   pub mosts : (k : ℕ) → k < poolTotal → most k v ≡ max (most k w) (largest (g k))
   pub views : (k : ℕ) → k < poolTotal → count k v ≤ room k → view k v ≡ view k w ++ g k
 
-pub ready-after : {w v : List ℕ} {g : ℕ → List (List ℕ)} → Ready w → Adds w v g → Ready v
+pub ready-after : {w v : List ℕ} {g : ℕ → List (List ℕ)} → AddsReady w → Adds w v g → AddsReady v
 ready-after r a = record { size = omega (arith, a .len, r .size); counts = λ k l. omega (arith, a .counts k l) }
 
 pub adds-same : {w v : List ℕ} {g h : ℕ → List (List ℕ)} → Adds w v g → ((k : ℕ) → g k ≡ h k) → Adds w v h
@@ -48,7 +48,7 @@ adds-same {w} {v} {g} {h} a e = record {
   views = λ k l f. a .views k l f ∙ ap (λ (x : List (List ℕ)). view k w ++ x) (e k);
 }
 
-pub adds-none : {w : List ℕ} → Ready w → Adds w w (λ k. [])
+pub adds-none : {w : List ℕ} → AddsReady w → Adds w w (λ k. [])
 adds-none {w} r = record {
   len = refl;
   head = λ j l. refl;
@@ -78,7 +78,7 @@ into-else : (k j : ℕ) (es : List (List ℕ)) → eqb k j ≡ false → into k 
 unfolding into
 into-else k j es e = rw (e, into)
 
-pub adds-push : {w : List ℕ} (k : ℕ) (e : List ℕ) → Ready w → k < poolTotal → length e ≡ width k → Adds w (push k e w) (into k (e ∷ []))
+pub adds-push : {w : List ℕ} (k : ℕ) (e : List ℕ) → AddsReady w → k < poolTotal → length e ≡ width k → Adds w (push k e w) (into k (e ∷ []))
 adds-push {w} k e r l q = record {
   len = length-push k e w;
   head = λ j h. head-push k e w j l h;
@@ -115,7 +115,7 @@ pub wide-map : {A : Type 0} (k : ℕ) (f : A → List ℕ) → ((a : A) → leng
 wide-map k f h [] = tt
 wide-map k f h (x ∷ xs) = (h x, wide-map k f h xs)
 
-pub adds-many : {w : List ℕ} (k : ℕ) (es : List (List ℕ)) → Ready w → k < poolTotal → Wide k es → Adds w (folds (push k) es w) (into k es)
+pub adds-many : {w : List ℕ} (k : ℕ) (es : List (List ℕ)) → AddsReady w → k < poolTotal → Wide k es → Adds w (folds (push k) es w) (into k es)
 unfolding folds
 adds-many k [] r l h = adds-same (adds-none r) (λ j. nothing j (eqb k j) refl)
   where
@@ -135,8 +135,8 @@ unfoldable pub grown : {A : Type 0} → (A → List ℕ → List ℕ) → (A →
 grown f g [] w k = []
 grown f g (a ∷ xs) w k = g a w k ++ grown f g xs (f a w) k
 
-pub adds-folds : {A : Type 0} (f : A → List ℕ → List ℕ) (g : A → List ℕ → ℕ → List (List ℕ)) → ((a : A) (w : List ℕ) → Ready w → Adds w (f a w) (g a w))
-    → (xs : List A) (w : List ℕ) → Ready w → Adds w (folds f xs w) (grown f g xs w)
+pub adds-folds : {A : Type 0} (f : A → List ℕ → List ℕ) (g : A → List ℕ → ℕ → List (List ℕ)) → ((a : A) (w : List ℕ) → AddsReady w → Adds w (f a w) (g a w))
+    → (xs : List A) (w : List ℕ) → AddsReady w → Adds w (folds f xs w) (grown f g xs w)
 unfolding folds grown
 adds-folds f g h [] w r = adds-none r
 adds-folds f g h (a ∷ xs) w r = adds-then (h a w r) (adds-folds f g h xs (f a w) (ready-after r (h a w r)))

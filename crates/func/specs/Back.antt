@@ -11,18 +11,18 @@ use lib.ListN.{length, getD, List·getD-append}
 use borrow.Author.Tests.{leb-true}
 use lib.Seq.{sets}
 use native.Mathlib.Nat.{zero-add}
-use Rattle.laws.specs.Every.{every-parts, every-split, every-true}
-use Rattle.laws.specs.Tests.{both}
-use Rattle.laws.specs.Part.{part-same, part-at}
-use Rattle.laws.specs.Lists.{every, gather}
+use Rattle.general_laws.specs.Every.{every-parts, every-split, every-true}
+use Rattle.general_laws.specs.Tests.{both}
+use Rattle.general_laws.specs.Part.{part-same, part-at}
+use Rattle.general_laws.specs.Lists.{every, gather}
 use Rattle.lifting.specs.Limits.{maxRegions, maxNodes, maxOps, maxConsts, maxParams, maxValues, maxDecls, maxImmediates, maxTargets, withinLimits}
 use Rattle.lifting.specs.Ast.{Value, const, regionInput, nodeOutput, dataInstOutput, Imm, DataInstKind, inst, call, ext, Op, boolCond, spvInst, Decl, Node, block, select, loop, exit, Region, ControlInstKind, unreachable, return, branch, selectBranch, exitInvocation, ControlInst, Func}
 use Rattle.lifting.specs.Parts.{childrenOf, outsOf, nodeControl, nodeValues, nodeInsts, opInsts, ctrlInsts, blockOps, ctrlValues}
 use Rattle.lifting.specs.Parts as text
-use Rattle.laws.specs.Gather.{back}
+use Rattle.general_laws.specs.Gather.{back}
 use Rattle.func.specs.Layout.{poolTotal, consts, params, decls, values, imms, targets, nodeRefs, opRefs, childRefs, entries, regions, nodes, ops, ctrls, entryRoom, entry-room}
 use Rattle.func.specs.Store.{count, view, folds}
-use Rattle.func.specs.Adds.{Ready, ready-after, adds-none, adds-push}
+use Rattle.func.specs.Adds.{AddsReady, ready-after, adds-none, adds-push}
 use Rattle.func.specs.Lines.{num, span, keepCells, rowOf, lineGain, length-row, slice, Later, later-then, Piece, piece-back, CellIs, Row, agree, row-cells, line-back, Each, each-back, rows-back}
 use Rattle.func.specs.Keep.{single, constWords, declWords, immWords, pairWords, valueWords, immsOf, opcodeOf, nodeNumber, opNumber, opFirst, opSecond, ctrlNumber, regionCells, nodeCells, opCells, entryCells, ctrlCells, keepRegion, keepNode, keepOp, keepEntry, ctrlRow, keepCtrl, keepHead, keepFunc}
 use Rattle.func.specs.Gains.{gain, rowFor, regionGain, nodeGain, opGain, entryGain, region-line, node-line, op-line, entry-line, adds-region, adds-node, adds-op, adds-entry, ctrl-lists, adds-ctrl-cells, entriesGain, adds-entries, ctrlRowOf, ctrl-wide, ctrlGain, adds-ctrl}
@@ -169,7 +169,7 @@ ctrl-back {t} fit e c r k =
 
 -- What a text must keep to for the slice to hold it whole: the limits of 3, what 5 and 7 then give of the lists that 3 does not bound,
 -- and first numbers of values that are at most 65,535, as those of values that name something are.
-pub record Fits (F : Func) : Type 0 where
+pub record RowFits (F : Func) : Type 0 where
   pub limits : withinLimits F ≡ true
   pub nodeRefs : length (text.nodeList F) ≤ maxNodes
   pub opRefs : length (text.opList F) ≤ maxOps
@@ -213,7 +213,7 @@ limits-of F e =
       targets = leb-true _ _ (i .1);
     }
 
-pub fits-room : (F : Func) → Fits F → (k : ℕ) → k < poolTotal → getD (sizes F) k 0 ≤ entryRoom k
+pub fits-room : (F : Func) → RowFits F → (k : ℕ) → k < poolTotal → getD (sizes F) k 0 ≤ entryRoom k
 fits-room F f k l = go (limits-of F (f .limits)) k l
   where
     go : Limits F → (k : ℕ) → k < poolTotal → getD (sizes F) k 0 ≤ entryRoom k
@@ -234,19 +234,19 @@ fits-room F f k l = go (limits-of F (f .limits)) k l
     go m (suc (suc (suc (suc (suc (suc (suc (suc (suc (suc (suc (suc (suc (suc k)))))))))))))) l = absurd (omega arith)
 
 -- Each line's row, at any later time.
-region-row : {t : List ℕ} (r : Region) (w : List ℕ) → Ready w → Later (keepRegion r w) t → Row t (rowFor regionCells r w) (regionCells r)
+region-row : {t : List ℕ} (r : Region) (w : List ℕ) → AddsReady w → Later (keepRegion r w) t → Row t (rowFor regionCells r w) (regionCells r)
 unfolding keepRegion rowFor
 region-row r w h l = line-back regions (regionCells r) (region-line r) h l
 
-node-row : {t : List ℕ} (n : Node) (w : List ℕ) → Ready w → Later (keepNode n w) t → Row t (rowFor nodeCells n w) (nodeCells n)
+node-row : {t : List ℕ} (n : Node) (w : List ℕ) → AddsReady w → Later (keepNode n w) t → Row t (rowFor nodeCells n w) (nodeCells n)
 unfolding keepNode rowFor
 node-row n w h l = line-back nodes (nodeCells n) (node-line n) h l
 
-op-row : {t : List ℕ} (o : Op) (w : List ℕ) → Ready w → Later (keepOp o w) t → Row t (rowFor opCells o w) (opCells o)
+op-row : {t : List ℕ} (o : Op) (w : List ℕ) → AddsReady w → Later (keepOp o w) t → Row t (rowFor opCells o w) (opCells o)
 unfolding keepOp rowFor
 op-row o w h l = line-back ops (opCells o) (op-line o) h l
 
-entry-row : {t : List ℕ} (e : ℕ × List Value) (w : List ℕ) → Ready w → Later (keepEntry e w) t → Row t (rowFor entryCells e w) (entryCells e)
+entry-row : {t : List ℕ} (e : ℕ × List Value) (w : List ℕ) → AddsReady w → Later (keepEntry e w) t → Row t (rowFor entryCells e w) (entryCells e)
 unfolding keepEntry rowFor
 entry-row e w h l = line-back entries (entryCells e) (entry-line e) h l
 
@@ -254,7 +254,7 @@ last : (c : ℕ × ControlInst) (w v : List ℕ) (x : ℕ) → x ≡ getD (rowOf
 unfolding ctrlCells rowOf
 last c w v x = refl
 
-ctrl-row : {t : List ℕ} (c : ℕ × ControlInst) (w : List ℕ) → Ready w → Later (keepCtrl c w) t → CtrlRow t (ctrlRowOf c w) c
+ctrl-row : {t : List ℕ} (c : ℕ × ControlInst) (w : List ℕ) → AddsReady w → Later (keepCtrl c w) t → CtrlRow t (ctrlRowOf c w) c
 unfolding keepCtrl ctrlRowOf ctrlRow entriesGain gain lineGain
 ctrl-row {t} c w r later =
     let a = adds-ctrl-cells c w r in
@@ -312,7 +312,7 @@ module _ (F : Func) {w : List ℕ} (c : Clear w) where
   row-view : (k : ℕ) → k < poolTotal → count k (keepFunc F w) ≤ entryRoom k → view k (keepFunc F w) ≡ funcGain F w k
   row-view k l f = adds-func F c .views k l (omega (arith, entry-room k)) ∙ ap (λ (x : List (List ℕ)). x ++ funcGain F w k) (clear-view (clear-head F c) k l)
 
-  ready-0 : Ready (headed F w)
+  ready-0 : AddsReady (headed F w)
   ready-0 = ready-clear (clear-head F c)
 
   -- whatever the text holds
@@ -345,7 +345,7 @@ module _ (F : Func) {w : List ℕ} (c : Clear w) where
   unfolding heads
   head-func j l = adds-func F c .head j l ∙ head-word w c F j l
 
-module _ (F : Func) {w : List ℕ} (c : Clear w) (f : Fits F) where
+module _ (F : Func) {w : List ℕ} (c : Clear w) (f : RowFits F) where
   pub all-fit : Fit (keepFunc F w)
   all-fit k l = omega (arith, count-func F c k l, fits-room F f k l)
 

@@ -10,7 +10,7 @@ use Rattle.lifting.specs.Ast.{const, regionInput, nodeOutput, dataInstOutput, I
 use Rattle.func.specs.Keep.{keepFunc}
 use Rattle.func.specs.Decode.{funcOf}
 use Rattle.func.specs.Whole.{entryList, clear-zeros}
-use Rattle.func.specs.Back.{Fits, func-back}
+use Rattle.func.specs.Back.{RowFits, func-back}
 
 decl : ℕ → ℕ → Decl
 decl a t = record { attrs = a; type = t }
@@ -38,7 +38,7 @@ example = record {
       ∷ [];
 }
 
-example-fits : Fits example
+example-fits : RowFits example
 unfolding example decl switch withinLimits text.values text.decls text.insts text.immediates text.targets text.nodeList text.opList text.childList entryList
 example-fits = record {
   limits = refl;

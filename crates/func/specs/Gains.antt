@@ -8,13 +8,13 @@ use mathlib.Core.List.{List, [], _∷_, _++_, map}
 use Prim.Native.Nat.{ℕ}
 use lib.Dec.{eqb, lit<}
 use lib.ListN.{length}
-use Rattle.laws.specs.Lists.{gather}
+use Rattle.general_laws.specs.Lists.{gather}
 use Rattle.lifting.specs.Ast.{Value, const, regionInput, nodeOutput, dataInstOutput, Imm, Op, Decl, Node, Region, ControlInst, Const}
 use Rattle.lifting.specs.Parts.{childrenOf, outsOf, nodeValues, nodeInsts, opInsts, ctrlInsts, blockOps}
-use Rattle.laws.specs.Gather.{gather-none}
+use Rattle.general_laws.specs.Gather.{gather-none}
 use Rattle.func.specs.Layout.{consts, params, decls, values, imms, targets, nodeRefs, opRefs, childRefs, entries, regions, nodes, ops, ctrls, shapes, lay, pools, poolOf, width}
 use Rattle.func.specs.Store.{folds}
-use Rattle.func.specs.Adds.{Ready, Adds, ready-after, adds-then, Wide, wide-map, grown, adds-folds, grown-gather}
+use Rattle.func.specs.Adds.{AddsReady, Adds, ready-after, adds-then, Wide, wide-map, grown, adds-folds, grown-gather}
 use Rattle.func.specs.Lines.{Cell, keepCells, rowOf, gained, fresh, proper, WideCells, adds-cells, lineGain, adds-row, Line, adds-line}
 use Rattle.func.specs.Keep.{single, constWords, declWords, immWords, valueWords, immsOf, regionCells, nodeCells, opCells, entryCells, ctrlCells, keepRegion, keepNode, keepOp, keepEntry, ctrlRow, keepCtrl}
 
@@ -106,19 +106,19 @@ opGain = gain ops opCells
 abbrev pub entryGain : ℕ × List Value → List ℕ → ℕ → List (List ℕ)
 entryGain = gain entries entryCells
 
-pub adds-region : (r : Region) (w : List ℕ) → Ready w → Adds w (keepRegion r w) (regionGain r w)
+pub adds-region : (r : Region) (w : List ℕ) → AddsReady w → Adds w (keepRegion r w) (regionGain r w)
 unfolding keepRegion gain rowFor
 adds-region r w h = adds-line regions (regionCells r) (region-line r) h
 
-pub adds-node : (n : Node) (w : List ℕ) → Ready w → Adds w (keepNode n w) (nodeGain n w)
+pub adds-node : (n : Node) (w : List ℕ) → AddsReady w → Adds w (keepNode n w) (nodeGain n w)
 unfolding keepNode gain rowFor
 adds-node n w h = adds-line nodes (nodeCells n) (node-line n) h
 
-pub adds-op : (o : Op) (w : List ℕ) → Ready w → Adds w (keepOp o w) (opGain o w)
+pub adds-op : (o : Op) (w : List ℕ) → AddsReady w → Adds w (keepOp o w) (opGain o w)
 unfolding keepOp gain rowFor
 adds-op o w h = adds-line ops (opCells o) (op-line o) h
 
-pub adds-entry : (e : ℕ × List Value) (w : List ℕ) → Ready w → Adds w (keepEntry e w) (entryGain e w)
+pub adds-entry : (e : ℕ × List Value) (w : List ℕ) → AddsReady w → Adds w (keepEntry e w) (entryGain e w)
 unfolding keepEntry gain rowFor
 adds-entry e w h = adds-line entries (entryCells e) (entry-line e) h
 
@@ -127,13 +127,13 @@ pub ctrl-lists : (c : ℕ × ControlInst) → (proper (ctrlCells c) ≡ true) ×
 unfolding ctrlCells fresh proper width poolOf pools shapes lay
 ctrl-lists c = (refl, (wide-imms (immsOf (ctrlInsts (c .1 .kind))), (wide-values (c .1 .ins), (wide-numbers targets refl (c .1 .to), tt))))
 
-pub adds-ctrl-cells : (c : ℕ × ControlInst) (w : List ℕ) → Ready w → Adds w (keepCells (ctrlCells c) w) (gained (ctrlCells c))
+pub adds-ctrl-cells : (c : ℕ × ControlInst) (w : List ℕ) → AddsReady w → Adds w (keepCells (ctrlCells c) w) (gained (ctrlCells c))
 adds-ctrl-cells c w h = adds-cells (ctrlCells c) (ctrl-lists c .0) (ctrl-lists c .1) h
 
 unfoldable pub entriesGain : ℕ × ControlInst → List ℕ → ℕ → List (List ℕ)
 entriesGain c w = grown keepEntry entryGain (c .1 .vals) (keepCells (ctrlCells c) w)
 
-pub adds-entries : (c : ℕ × ControlInst) (w : List ℕ) → Ready w → Adds (keepCells (ctrlCells c) w) (folds keepEntry (c .1 .vals) (keepCells (ctrlCells c) w)) (entriesGain c w)
+pub adds-entries : (c : ℕ × ControlInst) (w : List ℕ) → AddsReady w → Adds (keepCells (ctrlCells c) w) (folds keepEntry (c .1 .vals) (keepCells (ctrlCells c) w)) (entriesGain c w)
 unfolding entriesGain
 adds-entries c w h = adds-folds keepEntry entryGain adds-entry (c .1 .vals) (keepCells (ctrlCells c) w) (ready-after h (adds-ctrl-cells c w h))
 
@@ -157,7 +157,7 @@ pub ctrl-wide : (c : ℕ × ControlInst) (w : List ℕ) → length (ctrlRowOf c 
 unfolding ctrlRowOf ctrlRow ctrlCells rowOf width poolOf pools shapes lay
 ctrl-wide c w = refl
 
-pub adds-ctrl : (c : ℕ × ControlInst) (w : List ℕ) → Ready w → Adds w (keepCtrl c w) (ctrlGain c w)
+pub adds-ctrl : (c : ℕ × ControlInst) (w : List ℕ) → AddsReady w → Adds w (keepCtrl c w) (ctrlGain c w)
 unfolding keepCtrl ctrlGain ctrlRowOf
 adds-ctrl c w h =
     adds-row ctrls (ctrlRowOf c w) (λ j. gained (ctrlCells c) j ++ entriesGain c w j) h (adds-then (adds-ctrl-cells c w h) (adds-entries c w h)) (lit< tt)

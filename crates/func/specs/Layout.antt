@@ -15,9 +15,9 @@ use native.Mathlib.Omega.{arith}
 use lib.Dec.{leb, ltb}
 use borrow.Author.Tests.{leb-true, ltb-true, ltb-false}
 use lib.ListN.{length, getD, List·getD-map}
-use Rattle.laws.specs.Every.{every-at}
-use Rattle.laws.specs.Tests.{both}
-use Rattle.laws.specs.Lists.{every}
+use Rattle.general_laws.specs.Every.{every-at}
+use Rattle.general_laws.specs.Tests.{both}
+use Rattle.general_laws.specs.Lists.{every}
 use Rattle.lifting.specs.Limits.{maxRegions, maxNodes, maxOps, maxConsts, maxParams, maxValues, maxDecls, maxImmediates, maxTargets}
 
 pub record Pool : Type 0 where

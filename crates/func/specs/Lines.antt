@@ -13,12 +13,12 @@ use native.Mathlib.Omega.{arith}
 use lib.Dec.{ltb, eqb}
 use lib.ListN.{length, getD, take, drop}
 use borrow.Author.Tests.{ltb-true, eqb-true, eqb-false, not-true, eq-eqb, ne-eqb}
-use Rattle.laws.specs.Tests.{both}
-use Rattle.laws.specs.Tab.{slice-middle}
-use Rattle.laws.specs.Lists.{every}
+use Rattle.general_laws.specs.Tests.{both}
+use Rattle.general_laws.specs.Tab.{slice-middle}
+use Rattle.general_laws.specs.Lists.{every}
 use Rattle.func.specs.Layout.{poolTotal, width, room, inside, entryRoom, entry-room}
 use Rattle.func.specs.Store.{count, view, push, folds, length-view}
-use Rattle.func.specs.Adds.{Ready, Adds, ready-after, adds-same, adds-none, adds-then, into, adds-push, Wide, adds-many, grown, adds-folds}
+use Rattle.func.specs.Adds.{AddsReady, Adds, ready-after, adds-same, adds-none, adds-then, into, adds-push, Wide, adds-many, grown, adds-folds}
 
 pub data Cell : Type 0 where
   num : ℕ → Cell
@@ -97,7 +97,7 @@ gained-fresh p (run q es ∷ cs) e =
     let a = both (not (eqb q p)) (fresh p cs) e in
     gained-else q p es cs (not-true (eqb q p) (a .0)) ∙ gained-fresh p cs (a .1)
 
-pub adds-cells : {w : List ℕ} (cs : List Cell) → proper cs ≡ true → WideCells cs → Ready w → Adds w (keepCells cs w) (gained cs)
+pub adds-cells : {w : List ℕ} (cs : List Cell) → proper cs ≡ true → WideCells cs → AddsReady w → Adds w (keepCells cs w) (gained cs)
 unfolding keepCells
 adds-cells [] e h r = adds-same (adds-none r) (λ j. unfold gained in refl)
 adds-cells (num n ∷ cs) e h r = adds-same (adds-cells cs (unfold proper in e) h r) (λ j. unfold gained in refl)
@@ -124,7 +124,7 @@ length-row (num n ∷ cs) w v = ap suc (length-row cs w v)
 length-row (run p es ∷ cs) w v = ap suc (length-row cs w v)
 
 -- a row after the lists: what they add, and the row
-pub adds-row : {w v : List ℕ} (k : ℕ) (row : List ℕ) (g : ℕ → List (List ℕ)) → Ready w → Adds w v g → k < poolTotal → g k ≡ [] → length row ≡ width k
+pub adds-row : {w v : List ℕ} (k : ℕ) (row : List ℕ) (g : ℕ → List (List ℕ)) → AddsReady w → Adds w v g → k < poolTotal → g k ≡ [] → length row ≡ width k
     → Adds w (push k row v) (λ j. elim (eqb k j) [ true ↦ row ∷ [] | false ↦ g j ])
 unfolding into
 adds-row {w} {v} k row g r a l f q = adds-same (adds-then a (adds-push k row (ready-after r a) l q)) (λ j. joined j (eqb k j) refl)
@@ -141,7 +141,7 @@ pub record Line (k : ℕ) (cs : List Cell) : Type 0 where
   pub lists : proper cs ≡ true
   pub wide : WideCells cs
 
-pub adds-line : {w : List ℕ} (k : ℕ) (cs : List Cell) → Line k cs → Ready w → Adds w (keepLine k cs w) (lineGain k cs (rowOf cs w (keepCells cs w)))
+pub adds-line : {w : List ℕ} (k : ℕ) (cs : List Cell) → Line k cs → AddsReady w → Adds w (keepLine k cs w) (lineGain k cs (rowOf cs w (keepCells cs w)))
 unfolding keepLine lineGain
 adds-line {w} k cs l r =
     adds-row k (rowOf cs w (keepCells cs w)) (gained cs) r (adds-cells cs (l .lists) (l .wide) r) (l .pool) (gained-fresh k cs (l .own))
@@ -236,7 +236,7 @@ row-cells {w} {v} {t} {g} a b cs h = record { cell = cells cs h }
     cells (run p es ∷ cs) h (suc j) l = cells cs (h .2) j (le-of-suc-le-suc l)
 
 -- a line's row is what the line says, at any later time
-pub line-back : {w t : List ℕ} (k : ℕ) (cs : List Cell) → Line k cs → Ready w → Later (keepLine k cs w) t → Row t (rowOf cs w (keepCells cs w)) cs
+pub line-back : {w t : List ℕ} (k : ℕ) (cs : List Cell) → Line k cs → AddsReady w → Later (keepLine k cs w) t → Row t (rowOf cs w (keepCells cs w)) cs
 unfolding keepLine
 line-back {w} k cs l r b =
     let a = adds-cells cs (l .lists) (l .wide) r in
@@ -265,10 +265,10 @@ each-back {A} f q h (more {e = e} {es = es} {a = a} {xs = xs} p r) t =
     ap (λ (x : A). x ∷ map f es) (h e a p (u .0)) ∙ ap (λ (l : List A). a ∷ l) (each-back f q h r (u .1))
 
 -- lines that each push one row to pool k
-pub rows-back : {A : Type 0} (k : ℕ) (f : A → List ℕ → List ℕ) (g : A → List ℕ → ℕ → List (List ℕ)) → ((a : A) (w : List ℕ) → Ready w → Adds w (f a w) (g a w))
+pub rows-back : {A : Type 0} (k : ℕ) (f : A → List ℕ → List ℕ) (g : A → List ℕ → ℕ → List (List ℕ)) → ((a : A) (w : List ℕ) → AddsReady w → Adds w (f a w) (g a w))
     → (row : A → List ℕ → List ℕ) → ((a : A) (w : List ℕ) → g a w k ≡ row a w ∷ [])
-    → (P : List ℕ → A → Type 0) {t : List ℕ} → ((a : A) (w : List ℕ) → Ready w → Later (f a w) t → P (row a w) a)
-    → (xs : List A) (w : List ℕ) → Ready w → Later (folds f xs w) t → Each P (grown f g xs w k) xs
+    → (P : List ℕ → A → Type 0) {t : List ℕ} → ((a : A) (w : List ℕ) → AddsReady w → Later (f a w) t → P (row a w) a)
+    → (xs : List A) (w : List ℕ) → AddsReady w → Later (folds f xs w) t → Each P (grown f g xs w k) xs
 unfolding grown folds
 rows-back k f g h row e P p [] w r b = none
 rows-back k f g h row e P p (a ∷ xs) w r b =

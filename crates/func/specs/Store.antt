@@ -17,8 +17,8 @@ use lib.Dec.{ltb}
 use lib.ListN.{length, getD, set, length-set}
 use lib.Seq.{sets, length-sets, getD-set-same, getD-set-other}
 use borrow.Author.Tests.{ltb-true, ltb-false, lt-ltb, le-ltb}
-use Rattle.laws.specs.Part.{part, part-before, part-after, part-same, at-before}
-use Rattle.laws.specs.Tab.{tab, length-tab, tab-same, tab-more}
+use Rattle.general_laws.specs.Part.{part, part-before, part-after, part-same, at-before}
+use Rattle.general_laws.specs.Tab.{tab, length-tab, tab-same, tab-more}
 use Rattle.func.specs.Layout.{funcNeed, poolTotal, base, width, room, inside, apart, entry-inside, entry-before}
 
 -- the largest first word of what pool k was given

@@ -13,10 +13,10 @@ use native.Mathlib.Omega.{arith}
 use lib.Dec.{lit<}
 use lib.ListN.{length, getD, drop, length-map, length-take, length-drop, List·getD-map}
 use lib.Seq.{getD-take, getD-drop}
-use Rattle.laws.specs.Every.{every-at, every-parts, every-split}
-use Rattle.laws.specs.Part.{part-at}
-use Rattle.laws.specs.Tab.{getD-tab}
-use Rattle.laws.specs.Lists.{every, gather}
+use Rattle.general_laws.specs.Every.{every-at, every-parts, every-split}
+use Rattle.general_laws.specs.Part.{part-at}
+use Rattle.general_laws.specs.Tab.{getD-tab}
+use Rattle.general_laws.specs.Lists.{every, gather}
 use Rattle.lifting.specs.Ast.{Value, Op, Decl, Node, Region, ControlInst, Func, unreachable}
 use Rattle.lifting.specs.Parts.{nodeValues, nodeInsts, blockOps, childrenOf, outsOf, opInsts, ctrlInsts, ctrlValues}
 use Rattle.lifting.specs.Parts as text
@@ -26,7 +26,7 @@ use Rattle.func.specs.Lines.{slice, Piece, Row, each-length, each-at}
 use Rattle.func.specs.Keep.{single, declWords, immWords, valueWords, immsOf, opcodeOf, nodeNumber, opNumber, opFirst, opSecond, ctrlNumber, regionCells, nodeCells, opCells, entryCells, ctrlCells, keepFunc}
 use Rattle.func.specs.Decode.{constOf, declOf, valueOf, funcOf}
 use Rattle.func.specs.Whole.{Clear, adds-func, clear-head}
-use Rattle.func.specs.Back.{Fit, kept, value-back, CtrlRow, Fits, Rows, rows-func, func-back, all-fit, kept-lines}
+use Rattle.func.specs.Back.{Fit, kept, value-back, CtrlRow, RowFits, Rows, rows-func, func-back, all-fit, kept-lines}
 
 pub record Tables (w : List ℕ) : Type 0 where
   pub size : funcNeed ≤ length w
@@ -34,7 +34,7 @@ pub record Tables (w : List ℕ) : Type 0 where
   pub rows : Rows (funcOf w) w
   pub firsts : every kept (text.values (funcOf w)) ≡ true
 
-pub tables-func : (F : Func) {w : List ℕ} → Clear w → Fits F → Tables (keepFunc F w)
+pub tables-func : (F : Func) {w : List ℕ} → Clear w → RowFits F → Tables (keepFunc F w)
 tables-func F {w} c f = record {
   size = omega (arith, adds-func F c .len, clear-head F c .size);
   counts = all-fit F c f;

@@ -12,15 +12,15 @@ use lib.Dec.{eqb, ltb, lit<}
 use lib.ListN.{length, getD, replicate, getD-replicate, length-replicate, length-append, length-map}
 use lib.Seq.{length-sets}
 use borrow.Author.Tests.{ne-eqb, ltb-true, ltb-false}
-use Rattle.laws.specs.Part.{at-after}
-use Rattle.laws.specs.Tab.{tab}
-use Rattle.laws.specs.Lists.{gather}
+use Rattle.general_laws.specs.Part.{at-after}
+use Rattle.general_laws.specs.Tab.{tab}
+use Rattle.general_laws.specs.Lists.{gather}
 use Rattle.lifting.specs.Ast.{Value, Op, Decl, Node, Region, ControlInst, Const, Func}
 use Rattle.lifting.specs.Parts as text
-use Rattle.laws.specs.Gather.{map-append, map-gather, gather-none, gather-append, gather-gather, gather-single}
+use Rattle.general_laws.specs.Gather.{map-append, map-gather, gather-none, gather-append, gather-gather, gather-single}
 use Rattle.func.specs.Layout.{funcNeed, poolTotal, consts, params, decls, values, targets, entries, regions, nodes, ops, ctrls, room, entryRoom, entry-room}
 use Rattle.func.specs.Store.{count, most, entry, view, folds}
-use Rattle.func.specs.Adds.{Ready, Adds, ready-after, adds-then, into, adds-push, grown, adds-folds, grown-gather, grown-length, grown-none, largest, grown-largest}
+use Rattle.func.specs.Adds.{AddsReady, Adds, ready-after, adds-then, into, adds-push, grown, adds-folds, grown-gather, grown-length, grown-none, largest, grown-largest}
 use Rattle.func.specs.Lines.{Cell, keepCells, rowOf, gained, lineGain}
 use Rattle.func.specs.Keep.{single, constWords, declWords, immWords, valueWords, regionCells, nodeCells, opCells, entryCells, ctrlCells, keepConst, keepParam, keepHead, keepRegion, keepNode, keepOp, keepEntry, ctrlRow, keepCtrl, keepFunc}
 use Rattle.func.specs.Gains.{const-wide, param-wide, rowFor, ctrlRowOf, gain, regionGain, nodeGain, opGain, entryGain, entriesGain, entries-at, ctrlGain, adds-region, adds-node, adds-op, adds-ctrl}
@@ -43,7 +43,7 @@ pub clear-view : {w : List ℕ} → Clear w → (k : ℕ) → k < poolTotal → 
 unfolding view tab
 clear-view {w} c k l = let e : min (count k w) (room k) ≡ 0 = omega (arith, c .empty k l) in ap (λ (n : ℕ). tab n (entry k w)) e
 
-pub ready-clear : {w : List ℕ} → Clear w → Ready w
+pub ready-clear : {w : List ℕ} → Clear w → AddsReady w
 ready-clear c = record { size = c .size; counts = λ k l. omega (arith, c .empty k l) }
 
 -- the func line

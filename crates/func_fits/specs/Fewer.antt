@@ -12,9 +12,9 @@ use native.Mathlib.Omega.{arith}
 use lib.Dec.{ltb}
 use lib.ListN.{length}
 use borrow.Author.Tests.{ltb-true}
-use Rattle.laws.specs.Lists.{choose, below, every, distinct}
-use Rattle.laws.specs.Members.{In, here, there, in-nil, in-cases, in-tabulate, length-tabulate, All, all-in, NoDup}
-use Rattle.laws.specs.Tests.{distinct-once, every-all}
+use Rattle.general_laws.specs.Lists.{choose, below, every, distinct}
+use Rattle.general_laws.specs.Members.{In, here, there, in-nil, in-cases, in-tabulate, length-tabulate, All, all-in, NoDup}
+use Rattle.general_laws.specs.Tests.{distinct-once, every-all}
 
 -- the list without the first x
 unfoldable pub less : ℕ → List ℕ → List ℕ

@@ -12,7 +12,7 @@ use lib.Dec.{leb, ltb}
 use lib.ListN.{length, getD, length-append}
 use borrow.Author.Tests.{ltb-true, le-leb}
 use Rattle.lifting_runs.specs.StandsOnce.{stands-once}
-use Rattle.laws.specs.Lists.{every, gather, within, distinct, below, keys}
+use Rattle.general_laws.specs.Lists.{every, gather, within, distinct, below, keys}
 use Rattle.lifting.specs.Ast.{Value, const, regionInput, nodeOutput, dataInstOutput, block, call, ControlInst, Func}
 use Rattle.lifting.specs.Parts as text
 use Rattle.lifting.specs.Limits.{maxRegions, maxTargets, maxOpcode, withinLimits}
@@ -20,11 +20,11 @@ use Rattle.lifting.specs.References.{named, instFits, controlHolds, referencesH
 use Rattle.lifting.specs.Tree.{standsOnce, aroundItself, rootsHaveWaysOut, isTree}
 use Rattle.lifting.specs.Order.{roots}
 use Rattle.lifting.specs.Control.{ctrlFits, isRoot, kindFits, reachedFit, controlFits}
-use Rattle.laws.specs.Members.{In, All, in-within}
-use Rattle.laws.specs.Tests.{both, every-in, every-all, all-split, distinct-once}
+use Rattle.general_laws.specs.Members.{In, All, in-within}
+use Rattle.general_laws.specs.Tests.{both, every-in, every-all, all-split, distinct-once}
 use Rattle.func.specs.Whole.{Clear, entryList}
 use Rattle.func.specs.Keep.{keepFunc}
-use Rattle.func.specs.Back.{kept, Fits, Limits, limits-of}
+use Rattle.func.specs.Back.{kept, RowFits, Limits, limits-of}
 use Rattle.func.specs.Tables.{Tables, tables-func}
 use Rattle.func_fits.specs.Fewer.{fewer, fewer-below}
 
@@ -142,7 +142,7 @@ keys-below n (c ∷ l) h =
     (s .0 .0, keys-below n l (s .1))
 
 module _ (F : Func) (limits : withinLimits F ≡ true) (references : referencesHold F ≡ true) where
-  pub fits-few : isTree F ≡ true → Few F → Fits F
+  pub fits-few : isTree F ≡ true → Few F → RowFits F
   fits-few tree few =
       let m = limits-of F limits in
       let b = below-all F references in
@@ -174,7 +174,7 @@ pub record Checked (F : Func) : Type 0 where
   pub control : controlFits F ≡ true
 
 module _ (F : Func) (ok : Checked F) where
-  pub fits-checked : Fits F
+  pub fits-checked : RowFits F
   fits-checked = fits-few F (ok .limits) (ok .references) (ok .tree) (few-control F (ok .limits) (ok .references) (ok .control))
 
   pub tables-checked : {w : List ℕ} → Clear w → Tables (keepFunc F w)

@@ -26,7 +26,7 @@ use Rattle.lifting.specs.World.{Executed, World, stuck}
 use Rattle.lifting.specs.RegionRun.{regionLog, regionStart, regionStep}
 use Rattle.lifting.specs.BlockRun.{blockLog, blockStart, blockStep, parts, phisOf}
 use Rattle.lifting.specs.Runs.{AlikeRuns, TrueConstants}
-use Rattle.laws.specs.Members.{All, In}
+use Rattle.general_laws.specs.Members.{All, In}
 use Rattle.lifting_runs.specs.ListIds.{RunOn, givenIds}
 use Rattle.lifting_runs.specs.ListPhis.{PhiPairs, phiIds}
 use Rattle.lifting_runs.specs.Demand3.{demand-3, never-stuck}

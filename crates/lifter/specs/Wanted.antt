@@ -17,7 +17,7 @@ use Rattle.lifting.specs.Instructions.{listOf}
 use Rattle.lifting.specs.Words.{words}
 use Rattle.lifting.specs.Answer.{Answer, Parsed, answer, denied, idsFit, lifted, listed, parse, parsed, refused, valuesSet, written}
 use Rattle.lifting_sizes.specs.Parsing.{Denial, by-parse, denial-other}
-use Rattle.lifter.specs.Lift.{wanted, wantedBy}
+use Rattle.lifter.specs.Entry.{wanted, wantedBy}
 
 -- what parsing denies, it does not deny by 11
 abbrev Denied : Parsed → Type 0

@@ -13,7 +13,7 @@ ghost use Rattle.func.specs.Decode.{funcOf};
 ghost use Rattle.work.specs.Layout.{workNeed};
 ghost use Rattle.check_text.specs.Same.{Stands};
 ghost use Rattle.emitter.specs.Emit.{Gives, Wants, outcome, told};
-ghost use Rattle.lifter.specs.Lift.{answerTo, wantedTo};
+ghost use Rattle.lifter.specs.Entry.{answerTo, wantedTo};
 
 // From the tables, which are cleared then.
 fn from_tables(first: u32, func: &mut [u32], work: &mut [u32], out: &mut [u32]) -> Lifted

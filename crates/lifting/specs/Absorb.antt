@@ -4,7 +4,7 @@ use mathlib.Core.List.{List, [], _∷_, _++_}
 use mathlib.Core.Option.{Option, none, some}
 use Prim.Native.Nat.{ℕ, zero, suc, _+_}
 use native.Mathlib.Decide.{ℕ-discrete}
-use Rattle.laws.specs.Lists.{choose, times}
+use Rattle.general_laws.specs.Lists.{choose, times}
 use Rattle.lifting.specs.Ast.{Value, ControlInstKind, unreachable, return, branch, selectBranch, exitInvocation}
 use Rattle.lifting.specs.Points.{CfgPoint, eqPoint, Merge, noMerge, selectionMerge, loopMerge, Terminator, BlockLifting, Table, points, nothingHere, blockAt}
 
@@ -76,9 +76,9 @@ joined b c = record { keys = b .keys; decls = b .decls; defaults = b .defaults; 
 abbrev pub refit : CfgPoint → CfgPoint → BlockLifting → CfgPoint → BlockLifting → BlockLifting
 refit b t c p d = choose (eqPoint p t) (emptied d) (choose (eqPoint p b) (joined d c) d)
 
-abbrev pub fuse : CfgPoint → CfgPoint → BlockLifting → Table → Table
-fuse b t c [] = []
-fuse b t c (x ∷ T) = (x .0, refit b t c (x .0) (x .1)) ∷ fuse b t c T
+abbrev pub absorbInto : CfgPoint → CfgPoint → BlockLifting → Table → Table
+absorbInto b t c [] = []
+absorbInto b t c (x ∷ T) = (x .0, refit b t c (x .0) (x .1)) ∷ absorbInto b t c T
 
 -- Points of count 0 are dropped.
 abbrev pub keepIf : ℕ → (CfgPoint × BlockLifting) → Table → Table
@@ -103,7 +103,7 @@ tryTarget b none s = s
 tryTarget b (some t) s =
     choose (ℕ-discrete (s .counts t) 1)
     (ifNoPhis (blockAt (s .table) t .keys)
-    (record { table = fuse b t (blockAt (s .table) t) (s .table); counts = λ q. choose (eqPoint q t) 0 (s .counts q) }) s)
+    (record { table = absorbInto b t (blockAt (s .table) t) (s .table); counts = λ q. choose (eqPoint q t) 0 (s .counts q) }) s)
     s
 
 abbrev pub absorbAt : CfgPoint → Absorbing → Absorbing

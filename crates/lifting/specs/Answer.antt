@@ -9,7 +9,7 @@ use lib.Dec.{leb, ltb, eqb}
 use lib.ListN.{length, drop, replicate}
 use Rattle.refusals.specs.declared.Refusal.the-variants.{Long, Forms, Limits, References, Tree, Counts, Control, Scratch, Ids, Values, Output, Targets}
 use Rattle.refusals.specs.Numbers.{refusalNumber}
-use Rattle.laws.specs.Lists.{every, gather, member}
+use Rattle.general_laws.specs.Lists.{every, gather, member}
 use Rattle.lifting.specs.Ast.{Value, const, regionInput, nodeOutput, dataInstOutput, eqValue, Func}
 use Rattle.lifting.specs.Grammar.{read}
 use Rattle.lifting.specs.Parts.{opOf, ids}

@@ -10,7 +10,7 @@ use lib.ListN.{length}
 use Rattle.opcodes.specs.declared.InstKind.{InstKind}
 use Rattle.opcodes.specs.declared.InstKind.the-variants.{ExtInst, FunctionParameter, FunctionEnd, FunctionCall, Phi, LoopMerge, SelectionMerge, Label, Branch, BranchConditional, Return, ReturnValue, Unreachable}
 use Rattle.opcodes.specs.Table.{opcodeOf}
-use Rattle.laws.specs.Lists.{choose, find, keys, within, tabulate}
+use Rattle.general_laws.specs.Lists.{choose, find, keys, within, tabulate}
 use Rattle.lifting.specs.Machine.{Out, go, halt}
 use Rattle.lifting.specs.Ast.{SelectionKind, boolCond, spvInst, Const}
 use Rattle.lifting.specs.Instructions.{Instruction}

@@ -5,7 +5,7 @@ use Prim.Native.Nat.{ℕ}
 use native.Mathlib.Decide.{ℕ-discrete}
 use lib.Dec.{leb, ltb, eqb}
 use lib.ListN.{length}
-use Rattle.laws.specs.Lists.{every, within, distinct, keys}
+use Rattle.general_laws.specs.Lists.{every, within, distinct, keys}
 use Rattle.lifting.specs.Ast.{boolCond, spvInst, ControlInstKind, unreachable, return, branch, selectBranch, exitInvocation, ControlInst, Func}
 use Rattle.lifting.specs.Parts.{childList}
 use Rattle.lifting.specs.Order.{roots}

@@ -5,7 +5,7 @@ use Prim.Native.Nat.{ℕ}
 use native.Mathlib.Decide.{ℕ-discrete}
 use lib.Dec.{leb, ltb, eqb}
 use lib.ListN.{length}
-use Rattle.laws.specs.Lists.{every}
+use Rattle.general_laws.specs.Lists.{every}
 use Rattle.lifting.specs.Ast.{SelectionKind, boolCond, spvInst, Node, block, select, loop, exit, ControlInst, Region, Func}
 use Rattle.lifting.specs.Parts.{nodeOf, regionOf, valsFor}
 

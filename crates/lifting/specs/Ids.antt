@@ -5,7 +5,7 @@ use mathlib.Core.List.{List, [], _∷_, _++_, map}
 use Prim.Native.Nat.{ℕ, zero, suc, _+_}
 use native.Mathlib.Decide.{ℕ-discrete}
 use lib.ListN.{length}
-use Rattle.laws.specs.Lists.{choose, tabulate, gather}
+use Rattle.general_laws.specs.Lists.{choose, tabulate, gather}
 use Rattle.lifting.specs.Ast.{Value, const, regionInput, nodeOutput, dataInstOutput, eqValue, Func}
 use Rattle.lifting.specs.Parts.{constOf, opOf}
 use Rattle.lifting.specs.Points.{CfgPoint, eqPoint, Table, points}

@@ -6,7 +6,7 @@ use mathlib.Core.Option.{Option, none, some}
 use Prim.Native.Nat.{ℕ, zero, suc}
 use native.Mathlib.Decide.{ℕ-discrete}
 use lib.ListN.{length}
-use Rattle.laws.specs.Lists.{within}
+use Rattle.general_laws.specs.Lists.{within}
 use Rattle.lifting.specs.Ast.{ControlInst, Func}
 use Rattle.lifting.specs.Parts.{ctrlOf}
 

@@ -5,7 +5,7 @@ use mathlib.Core.Option.{Option, none, some}
 use Prim.Native.Nat.{ℕ}
 use native.Mathlib.Decide.{ℕ-discrete}
 use lib.ListN.{getD, length}
-use Rattle.laws.specs.Lists.{gather, find, keys, tabulate}
+use Rattle.general_laws.specs.Lists.{gather, find, keys, tabulate}
 use Rattle.lifting.specs.Ast.{Value, regionInput, nodeOutput, Imm, Inst, DataInstKind, inst, call, ext, Op, SelectionKind, boolCond, spvInst, Decl, Node, block, select, loop, exit, Region, ControlInstKind, unreachable, return, branch, selectBranch, exitInvocation, ControlInst, Const, Func}
 
 -- Each kind is numbered from 0. What a number that names no line stands for holds nothing, so that it has no input, output or result.

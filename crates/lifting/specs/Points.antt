@@ -5,7 +5,7 @@ use mathlib.Core.List.{List, [], _∷_}
 use mathlib.Core.Option.{Option, none, some}
 use Prim.Native.Nat.{ℕ}
 use native.Mathlib.Decide.{ℕ-discrete}
-use Rattle.laws.specs.Lists.{find, keys}
+use Rattle.general_laws.specs.Lists.{find, keys}
 use Rattle.lifting.specs.Ast.{Value, Decl, ControlInstKind, unreachable, branch}
 use Rattle.lifting.specs.Parts.{valsOr}
 

@@ -7,7 +7,7 @@ use native.Mathlib.Decide.{ℕ-discrete}
 use lib.Dec.{leb, ltb}
 use lib.ListN.{length}
 use Rattle.opcodes.specs.Table.{table}
-use Rattle.laws.specs.Lists.{every, within, distinct}
+use Rattle.general_laws.specs.Lists.{every, within, distinct}
 use Rattle.lifting.specs.Ast.{Value, const, regionInput, nodeOutput, dataInstOutput, Imm, Inst, Node, Func}
 use Rattle.lifting.specs.Parts.{regionOf, nodeOf, opOf, outsOf, nodeControl, values, insts, nodeList, opList, childList, ctrlRegions, requiredIds}
 use Rattle.lifting.specs.Limits.{maxOpcode, maxImmKind, maxControl}

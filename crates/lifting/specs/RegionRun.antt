@@ -5,7 +5,7 @@ use mathlib.Core.List.{List, [], _∷_, _++_, map}
 use mathlib.Core.Option.{Option, none, some}
 use Prim.Native.Nat.{ℕ, zero, suc}
 use lib.ListN.{getD, length}
-use Rattle.laws.specs.Lists.{tabulate}
+use Rattle.general_laws.specs.Lists.{tabulate}
 use Rattle.lifting.specs.Machine.{Out, go, halt}
 use Rattle.lifting.specs.Ast.{Value, const, regionInput, dataInstOutput, eqValue, DataInstKind, inst, call, ext, Op, ControlInstKind, unreachable, return, branch, selectBranch, exitInvocation, Node, block, select, loop, exit, ControlInst, Func}
 use Rattle.lifting.specs.Parts.{regionOf, nodeOf, opOf, ctrlOf, insKeys, outKeys, valsFor}

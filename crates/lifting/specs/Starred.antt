@@ -9,7 +9,7 @@ use lib.Dec.{eqb}
 use lib.ListN.{length}
 use Rattle.opcodes.specs.declared.InstKind.the-variants.{Phi}
 use Rattle.lifting.specs.Bytes.{bytes}
-use Rattle.laws.specs.Lists.{every}
+use Rattle.general_laws.specs.Lists.{every}
 use Rattle.lifting.specs.Limits.{funcWords, workWords}
 use Rattle.lifting.specs.Instructions.{Instruction}
 use Rattle.lifting.specs.Words.{listFrom}

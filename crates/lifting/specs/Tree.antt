@@ -8,7 +8,7 @@ use Prim.Native.Nat.{ℕ, zero, suc}
 use native.Mathlib.Decide.{ℕ-discrete}
 use lib.Dec.{eqb}
 use lib.ListN.{length}
-use Rattle.laws.specs.Lists.{tabulate, below, every, within, times, distinct}
+use Rattle.general_laws.specs.Lists.{tabulate, below, every, within, times, distinct}
 use Rattle.lifting.specs.Ast.{ControlInst, Func}
 use Rattle.lifting.specs.Parts.{regionOf, nodeOf, childrenOf, nodeList, opList, childList}
 

@@ -5,7 +5,7 @@ use mathlib.Core.Bool.{Bool, false, cond}
 use mathlib.Core.List.{List, [], _∷_}
 use mathlib.Core.Option.{Option, none, some}
 use Prim.Native.Nat.{ℕ, _<_}
-use Rattle.laws.specs.Lists.{choose}
+use Rattle.general_laws.specs.Lists.{choose}
 use Rattle.lifting.specs.Machine.{Out, halt}
 use Rattle.lifting.specs.Ast.{Imm, Inst, SelectionKind, boolCond, spvInst}
 

@@ -6,7 +6,7 @@ use mathlib.Core.List.{List, [], _∷_, map}
 use Prim.Native.Nat.{ℕ, zero, suc, _<_}
 use native.Mathlib.Omega.{arith}
 use lib.ListN.{getD}
-use Rattle.laws.specs.Lists.{gather}
+use Rattle.general_laws.specs.Lists.{gather}
 use Rattle.lifting.specs.Ast.{Decl, Func, Node, Op, Value, block, const, dataInstOutput, exit, loop, nodeOutput, regionInput, select}
 use Rattle.lifting.specs.Parts.{calleeIds, decls, ids, nodeOf, opOf, outsOf, regionOf, requiredIds}
 use Rattle.lifting.specs.Points.{BlockLifting, CfgPoint, Merge, Table, Terminator, edgeOf, loopMerge, noMerge, selectionMerge}
@@ -14,8 +14,8 @@ use Rattle.lifting.specs.Walk.{Place, entryDecls, inBlock, inNode, top, walkOf}
 use Rattle.lifting.specs.Absorb.{countIn, kept}
 use Rattle.lifting.specs.Ids.{Name, idOf, label, labelOf, names, newId, nextId, theFunction, value}
 use Rattle.lifting.specs.Instructions.{Instruction, blockInsts, bodyInsts, functionInst, ifUsed, instructions, labelInst, listOf, mergeInsts, opInst, pairFrom, pairs, paramInst, paramInsts, phiInst, phiInsts, resultId, termInst}
-use Rattle.laws.specs.Members.{All, all-append, all-from, all-in}
-use Rattle.laws.specs.Tests.{all-at, all-line, all-map, all-part, all-split, all-unmap}
+use Rattle.general_laws.specs.Members.{All, all-append, all-from, all-in}
+use Rattle.general_laws.specs.Tests.{all-at, all-line, all-map, all-part, all-split, all-unmap}
 use Rattle.lifting_runs.specs.Ids.{number-range}
 use Rattle.lifting_runs.specs.Each.{Each, each-kept, every-walked}
 use Rattle.lifting_runs.specs.Listing.{all-blocks, all-body, all-list}

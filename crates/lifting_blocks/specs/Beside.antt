@@ -8,15 +8,15 @@ use mathlib.Core.Option.{Option, none, some}
 use Prim.Native.Nat.{ℕ, zero, suc, _≤_, _<_}
 use native.Mathlib.Omega.{arith}
 use lib.ListN.{length}
-use Rattle.laws.specs.Lists.{within}
+use Rattle.general_laws.specs.Lists.{within}
 use Rattle.lifting.specs.Ast.{ControlInst, Func}
 use Rattle.lifting.specs.Parts.{ctrlOf}
 use Rattle.lifting.specs.Order.{Seen, roots, targetsOf, visit, visitIf, visits}
 use Rattle.lifting.specs.Walk.{top}
 use Rattle.lifting_runs.specs.Order.{out-reverse-aux}
-use Rattle.laws.specs.Members.{In, here, there, in-cases, in-nil, in-within, not-within}
+use Rattle.general_laws.specs.Members.{In, here, there, in-cases, in-nil, in-within, not-within}
 use Rattle.lifting_runs.specs.Accepted.{Targets}
-use Rattle.lifting_runs.specs.Places.{Visited, at-body, by-ctrl}
+use Rattle.lifting_runs.specs.Places.{VisitedAt, at-body, by-ctrl}
 use Rattle.lifting_runs.specs.Order.{missing, missing-all, missing-less}
 
 abbrev pub first : List ℕ → Option ℕ
@@ -30,7 +30,7 @@ module _ (F : Func) where
 
   -- of a root and what stands after it in the order: a single target does, or another root leads there too
   abbrev pub Beside : ℕ → Option ℕ → Type 0
-  Beside r o = (c : ControlInst) (t : ℕ) → ctrlOf F r ≡ some c → c .to ≡ t ∷ [] → (o ≡ some t) ⊎ ((p : ℕ) × (¬ (p ≡ r)) × Visited F p top × Leads p t)
+  Beside r o = (c : ControlInst) (t : ℕ) → ctrlOf F r ≡ some c → c .to ≡ t ∷ [] → (o ≡ some t) ⊎ ((p : ℕ) × (¬ (p ≡ r)) × VisitedAt F p top × Leads p t)
 
   abbrev pub InOrder : List ℕ → Type 0
   InOrder [] = Unit {0}
@@ -42,7 +42,7 @@ module _ (F : Func) where
 
     -- r is the body, or some root among those seen leads to it
     abbrev Called : List ℕ → ℕ → Type 0
-    Called seen r = (r ≡ 0) ⊎ ((p : ℕ) × In p seen × Visited F p top × Leads p r)
+    Called seen r = (r ≡ 0) ⊎ ((p : ℕ) × In p seen × VisitedAt F p top × Leads p r)
 
     called-more : {l m : List ℕ} {r : ℕ} → ((x : ℕ) → In x l → In x m) → Called l r → Called m r
     called-more g (inl e) = inl e
@@ -62,9 +62,9 @@ module _ (F : Func) where
 
     -- what a visit does, with fuel for what is unseen
     abbrev Visits : ℕ → Type 0
-    Visits k = (r : ℕ) (s : Seen) → missing N (s .seen) < k → r < N → Visited F r top → Called (s .seen) r → Onward s (visit F k r s)
+    Visits k = (r : ℕ) (s : Seen) → missing N (s .seen) < k → r < N → VisitedAt F r top → Called (s .seen) r → Onward s (visit F k r s)
 
-    visits-on : (k : ℕ) → Visits k → (ts : List ℕ) (s : Seen) → missing N (s .seen) < k → ((t : ℕ) → In t ts → (t < N) × Visited F t top × Called (s .seen) t)
+    visits-on : (k : ℕ) → Visits k → (ts : List ℕ) (s : Seen) → missing N (s .seen) < k → ((t : ℕ) → In t ts → (t < N) × VisitedAt F t top × Called (s .seen) t)
         → Onward s (visits (λ t x. visit F k t x) ts s)
     visits-on k vk [] s m h = onward-refl s
     visits-on k vk (t ∷ ts) s m h =
@@ -77,7 +77,7 @@ module _ (F : Func) where
     front zero t s m e = absurd (omega arith)
     front (suc k) t s m e = ap (λ (b : Bool). first (visitIf F b (λ x y. visit F k x y) t s .order)) e
 
-    module _ (k r : ℕ) (s : Seen) (m : missing N (s .seen) < suc k) (low : r < N) (v : Visited F r top) (call : Called (s .seen) r) (new : within r (s .seen) ≡ false) where
+    module _ (k r : ℕ) (s : Seen) (m : missing N (s .seen) < suc k) (low : r < N) (v : VisitedAt F r top) (call : Called (s .seen) r) (new : within r (s .seen) ≡ false) where
       abbrev entered : Seen
       entered = record { seen = r ∷ s .seen; order = s .order }
 
@@ -87,7 +87,7 @@ module _ (F : Func) where
       less : missing N (r ∷ s .seen) < missing N (s .seen)
       less = missing-less N (s .seen) r low new
 
-      targets-on : (o : Option ControlInst) → ctrlOf F r ≡ o → (t : ℕ) → In t (reverse (targetsOf o)) → (t < N) × Visited F t top × Called (r ∷ s .seen) t
+      targets-on : (o : Option ControlInst) → ctrlOf F r ≡ o → (t : ℕ) → In t (reverse (targetsOf o)) → (t < N) × VisitedAt F t top × Called (r ∷ s .seen) t
       targets-on none e t h = absurd (in-nil h)
       targets-on (some c) e t h =
           let i : In t (c .to) = elim (out-reverse-aux t (c .to) [] h) [ inl i ↦ i | inr z ↦ absurd (in-nil z) ] in
@@ -100,7 +100,7 @@ module _ (F : Func) where
       }
 
       -- a target that was seen has another root that leads to it
-      other : (c : ControlInst) (t : ℕ) → ctrlOf F r ≡ some c → c .to ≡ t ∷ [] → Called (s .seen) t → (p : ℕ) × (¬ (p ≡ r)) × Visited F p top × Leads p t
+      other : (c : ControlInst) (t : ℕ) → ctrlOf F r ≡ some c → c .to ≡ t ∷ [] → Called (s .seen) t → (p : ℕ) × (¬ (p ≡ r)) × VisitedAt F p top × Leads p t
       other c t e z (inl q) = absurd (omega (arith, tg .not-body r t e (subst (In t) (sym z) here) .1))
       other c t e z (inr (p, i, w, h)) = (p, λ q. not-within r (s .seen) new (subst (λ (x : ℕ). In x (s .seen)) q i), w, h)
 
@@ -110,7 +110,7 @@ module _ (F : Func) where
           only : reverse (targetsOf (ctrlOf F r)) ≡ t ∷ []
           only = ap (λ (o : Option ControlInst). reverse (targetsOf o)) e ∙ ap (λ (l : List ℕ). reverse l) z
 
-          by-seen : (b : Bool) → within t (r ∷ s .seen) ≡ b → (first (done .order) ≡ some t) ⊎ ((p : ℕ) × (¬ (p ≡ r)) × Visited F p top × Leads p t)
+          by-seen : (b : Bool) → within t (r ∷ s .seen) ≡ b → (first (done .order) ≡ some t) ⊎ ((p : ℕ) × (¬ (p ≡ r)) × VisitedAt F p top × Leads p t)
           by-seen false w = inl (ap (λ (ts : List ℕ). first (visits (λ x y. visit F k x y) ts entered .order)) only ∙ front k t entered (omega (arith, less)) w)
           by-seen true w = inr (other c t e z (elim (in-cases (in-within t (r ∷ s .seen) w)) [ inl q ↦ subst (Called (s .seen)) (sym q) call | inr i ↦ f .called t i ]))
 

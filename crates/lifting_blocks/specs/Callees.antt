@@ -8,9 +8,9 @@ use Rattle.lifting.specs.Parts.{blockOps, calleeIds, decls, nodeOf, opList, opO
 use Rattle.lifting.specs.Points.{BlockLifting, CfgPoint}
 use Rattle.lifting.specs.Walk.{inBlock, walkOf}
 use Rattle.lifting.specs.Absorb.{kept}
-use Rattle.laws.specs.Members.{All, In, all-append, all-in, in-gather, in-getD, in-right}
+use Rattle.general_laws.specs.Members.{All, In, all-append, all-in, in-gather, in-getD, in-right}
 use Rattle.lifting_runs.specs.Refers.{Refers}
-use Rattle.laws.specs.Tests.{all-line}
+use Rattle.general_laws.specs.Tests.{all-line}
 use Rattle.lifting_runs.specs.Each.{Each, each-kept, every-walked}
 
 module _ (F : Func) (refs : Refers F) where

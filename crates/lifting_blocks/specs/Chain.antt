@@ -6,7 +6,7 @@ use Prim.Native.Nat.{ℕ, zero, suc, _<_}
 use native.Mathlib.Omega.{arith}
 use lib.ListN.{getD, length, drop, drop-of-length-le}
 use Rattle.lifting.specs.Points.{CfgPoint, BlockLifting, Table}
-use Rattle.laws.specs.Members.{All}
+use Rattle.general_laws.specs.Members.{All}
 use Rattle.lifting_blocks.specs.Flat.{noPair}
 
 pub none-some : {A : Type 0} {x : A} → none ≡ some x → ⊥

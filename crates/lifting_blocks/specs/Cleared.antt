@@ -13,17 +13,17 @@ use native.Mathlib.Decide.{ℕ-discrete}
 use lib.ListN.{List·getD-map, getD, length}
 use Rattle.opcodes.specs.Table.{opcodeOf}
 use Rattle.opcodes.specs.declared.InstKind.the-variants.{Function, FunctionParameter, Label, LoopMerge, Phi, SelectionMerge}
-use Rattle.laws.specs.Lists.{choose, gather, find}
+use Rattle.general_laws.specs.Lists.{choose, gather, find}
 use Rattle.lifting.specs.Ast.{ControlInst, Decl, Func, Imm, Node, Value, block, const, dataInstOutput, exit, loop, nodeOutput, regionInput, select}
 use Rattle.lifting.specs.Parts.{calleeIds, childrenOf, ctrlOf, hasBody, nodeOf, opOf, regionOf, valsOr}
 use Rattle.lifting.specs.Order.{roots}
 use Rattle.lifting.specs.Points.{BlockLifting, CfgPoint, Merge, Table, Terminator, blockAt, blockOr, eqPoint, loopMerge, noMerge, nodeEntry, nodeExit, plain, points, regionEntry, regionExit, selectionMerge}
 use Rattle.lifting.specs.Walk.{Place, always, childTerm, entryBlock, exitBlock, exitTerm, inBlock, inNode, loopTerm, nextPoint, outBlock, rootTerm, top, walkKids, walkNode, walkNodes, walkOf, walkRegion, walkRoots}
-use Rattle.lifting.specs.Absorb.{Absorbing, absorb, absorbAll, absorbAt, countIn, emptied, firstUse, fuse, ifBranch, ifEmpty, ifNoMerge, ifNoPhis, ifZero, joined, keep, keepIf, kept, labels, mergeLabels, single, soleTarget, tryTarget, useCount, uses}
+use Rattle.lifting.specs.Absorb.{Absorbing, absorb, absorbAll, absorbAt, countIn, emptied, firstUse, absorbInto, ifBranch, ifEmpty, ifNoMerge, ifNoPhis, ifZero, joined, keep, keepIf, kept, labels, mergeLabels, single, soleTarget, tryTarget, useCount, uses}
 use Rattle.lifting.specs.Ids.{Name, idOf, label, labelOf, names, newId, nextId, numberIn, paramKeys, resultOf, theFunction, value}
 use Rattle.lifting.specs.Instructions.{Instruction, bare, blockInsts, bodyInsts, endInst, functionControl, functionInst, ifUsed, instructions, labelInst, listOf, loopControl, mergeInsts, opImms, opInst, opOpcode, pairs, paramInst, paramInsts, phiInst, phiInsts, resultId, selectionControl, short, termImms, termInst, termOpcode}
 use Rattle.lifting.specs.BlockRun.{isMerge}
-use Rattle.laws.specs.Members.{All}
+use Rattle.general_laws.specs.Members.{All}
 use Rattle.lifting_runs.specs.Each.{taken}
 use Rattle.lifting_runs.specs.EmitRun.{BlockOk, Sound, free-of}
 use Rattle.lifting_runs.specs.Listing.{all-phis, no-merges}
@@ -175,7 +175,7 @@ sole-clear t = ap (λ (o : Option CfgPoint). ifZero (t .attrs) (ifBranch (t .kin
     of-merge (selectionMerge a u) o = refl
     of-merge (loopMerge a b u) o = refl
 
-fuse-clear : (b t : CfgPoint) (c : BlockLifting) (T : Table) → fuse b t (clearBlock c) (clearTable T) ≡ clearTable (fuse b t c T)
+fuse-clear : (b t : CfgPoint) (c : BlockLifting) (T : Table) → absorbInto b t (clearBlock c) (clearTable T) ≡ clearTable (absorbInto b t c T)
 fuse-clear b t c [] = refl
 fuse-clear b t c (x ∷ T) = λ i. (x .0, by-points (eqPoint (x .0) t) (eqPoint (x .0) b) i) ∷ fuse-clear b t c T i
   where
@@ -193,7 +193,7 @@ try-clear b none s = refl
 try-clear b (some t) s = by-count (ℕ-discrete (s .counts t) 1)
   where
     by-keys : (ks : List Value) → ifNoPhis ks (taken b t (clearState s)) (clearState s) ≡ clearState (ifNoPhis ks (taken b t s) s)
-    by-keys [] = λ i. record { table = (ap (λ (c : BlockLifting). fuse b t c (clearTable (s .table))) (at-clear (s .table) t) ∙ fuse-clear b t (blockAt (s .table) t) (s .table)) i; counts = taken b t s .counts }
+    by-keys [] = λ i. record { table = (ap (λ (c : BlockLifting). absorbInto b t c (clearTable (s .table))) (at-clear (s .table) t) ∙ fuse-clear b t (blockAt (s .table) t) (s .table)) i; counts = taken b t s .counts }
     by-keys (k ∷ ks) = refl
 
     by-count : (d : Dec (s .counts t ≡ 1)) → choose d (ifNoPhis (blockAt (clearTable (s .table)) t .keys) (taken b t (clearState s)) (clearState s)) (clearState s)

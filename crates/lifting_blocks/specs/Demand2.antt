@@ -23,7 +23,7 @@ use Rattle.lifting.specs.Instructions.{Instruction, instructions, listOf, merge
 use Rattle.lifting.specs.Words.{listFrom}
 use Rattle.lifting.specs.BlockRun.{parts, phisOf}
 use Rattle.lifting.specs.Answer.{answer, listed}
-use Rattle.laws.specs.Members.{All, In}
+use Rattle.general_laws.specs.Members.{All, In}
 use Rattle.lifting_runs.specs.Listing.{blocksFor, emit-blocks}
 use Rattle.lifting_runs.specs.EmitRun.{all-free}
 use Rattle.lifting_runs.specs.Fits.{first-fits}

@@ -6,7 +6,7 @@ use mathlib.Core.Option.{Option, none, some}
 use Prim.Native.Nat.{ℕ, zero, suc}
 use native.Mathlib.Decide.{ℕ-discrete}
 use lib.ListN.{getD}
-use Rattle.laws.specs.Lists.{choose, gather}
+use Rattle.general_laws.specs.Lists.{choose, gather}
 use Rattle.lifting.specs.Ast.{Value, Decl}
 use Rattle.lifting.specs.Points.{CfgPoint, regionEntry, eqPoint, Terminator, BlockLifting, Table, nothingHere, plain}
 use Rattle.lifting.specs.Absorb.{soleTarget, joined}
@@ -47,54 +47,54 @@ abbrev pub noKeys : List Value → Bool
 noKeys [] = true
 noKeys (k ∷ ks) = false
 
-abbrev pub gluesTo : Option CfgPoint → CfgPoint → ℕ → List Value → Bool
-gluesTo none q n ks = false
-gluesTo (some t) q n ks = choose (eqPoint t q) (choose (ℕ-discrete n 1) (noKeys ks) false) false
+abbrev pub absorbsTarget : Option CfgPoint → CfgPoint → ℕ → List Value → Bool
+absorbsTarget none q n ks = false
+absorbsTarget (some t) q n ks = choose (eqPoint t q) (choose (ℕ-discrete n 1) (noKeys ks) false) false
 
 abbrev pub noPair : CfgPoint × BlockLifting
 noPair = (regionEntry 0, plain nothingHere)
 
 -- a point's block once it has absorbed, and what stands behind it
-pub record Fused : Type 0 where
+pub record AbsorbedRun : Type 0 where
   pub block : BlockLifting
   pub rest : Table
 
-abbrev pub fuseStep : Bool → (CfgPoint × BlockLifting) → CfgPoint → Fused → Fused
-fuseStep true x q r = record { block = joined (x .1) (r .block); rest = r .rest }
-fuseStep false x q r = record { block = x .1; rest = (q, r .block) ∷ r .rest }
+abbrev pub absorbStep : Bool → (CfgPoint × BlockLifting) → CfgPoint → AbsorbedRun → AbsorbedRun
+absorbStep true x q r = record { block = joined (x .1) (r .block); rest = r .rest }
+absorbStep false x q r = record { block = x .1; rest = (q, r .block) ∷ r .rest }
 
 -- c counts the uses of a point
 module _ (c : CfgPoint → ℕ) where
   -- x absorbs y: its only target is y, which has use count 1 and no phis
-  unfoldable pub glues : (CfgPoint × BlockLifting) → (CfgPoint × BlockLifting) → Bool
-  glues x y = gluesTo (soleTarget (x .1 .term)) (y .0) (c (y .0)) (y .1 .keys)
+  unfoldable pub absorbsNext : (CfgPoint × BlockLifting) → (CfgPoint × BlockLifting) → Bool
+  absorbsNext x y = absorbsTarget (soleTarget (x .1 .term)) (y .0) (c (y .0)) (y .1 .keys)
 
   -- x absorbs the first of T
-  unfoldable pub glued : (CfgPoint × BlockLifting) → Table → Bool
-  glued x [] = false
-  glued x (y ∷ T) = glues x y
+  unfoldable pub absorbsFirst : (CfgPoint × BlockLifting) → Table → Bool
+  absorbsFirst x [] = false
+  absorbsFirst x (y ∷ T) = absorbsNext x y
 
   -- the point at i absorbs the next one
-  unfoldable pub glueAt : Table → ℕ → Bool
-  glueAt [] i = false
-  glueAt (x ∷ T) zero = glued x T
-  glueAt (x ∷ T) (suc i) = glueAt T i
+  unfoldable pub absorbsHere : Table → ℕ → Bool
+  absorbsHere [] i = false
+  absorbsHere (x ∷ T) zero = absorbsFirst x T
+  absorbsHere (x ∷ T) (suc i) = absorbsHere T i
 
   unfoldable pub statusFrom : Carry → Table → ℕ → Status
   statusFrom g T zero = status g (c (getD T 0 noPair .0))
-  statusFrom g T (suc i) = status (carry (statusFrom g T i) (getD T i noPair .0) (glueAt T i)) (c (getD T (suc i) noPair .0))
+  statusFrom g T (suc i) = status (carry (statusFrom g T i) (getD T i noPair .0) (absorbsHere T i)) (c (getD T (suc i) noPair .0))
 
   abbrev pub statusAt : Table → ℕ → Status
   statusAt T i = statusFrom fresh T i
 
   -- neighbours fused, from the last point back
-  unfoldable pub fuseFrom : (CfgPoint × BlockLifting) → Table → Fused
-  fuseFrom x [] = record { block = x .1; rest = [] }
-  fuseFrom x (y ∷ T) = fuseStep (glues x y) x (y .0) (fuseFrom y T)
+  unfoldable pub absorbFrom : (CfgPoint × BlockLifting) → Table → AbsorbedRun
+  absorbFrom x [] = record { block = x .1; rest = [] }
+  absorbFrom x (y ∷ T) = absorbStep (absorbsNext x y) x (y .0) (absorbFrom y T)
 
-  unfoldable pub fuseAll : Table → Table
-  fuseAll [] = []
-  fuseAll (x ∷ T) = (x .0, fuseFrom x T .block) ∷ fuseFrom x T .rest
+  unfoldable pub absorbRuns : Table → Table
+  absorbRuns [] = []
+  absorbRuns (x ∷ T) = (x .0, absorbFrom x T .block) ∷ absorbFrom x T .rest
 
 -- A pass over kept blocks: what it writes at a block's start (label and phis), for each op, at its end (the block's label and its way out).
 pub record Pass (A : Type 0) : Type 0 where
@@ -110,17 +110,17 @@ module _ {A : Type 0} (m : Pass A) where
   unfolding blockPart
   blockParts T = gather blockPart T
 
-  abbrev pub unlessGlued : Bool → List A → List A
-  unlessGlued true l = []
-  unlessGlued false l = l
+  abbrev pub unlessAbsorbs : Bool → List A → List A
+  unlessAbsorbs true l = []
+  unlessAbsorbs false l = l
 
   -- of one visited point
   unfoldable pub part : Status → Bool → (CfgPoint × BlockLifting) → List A
   part gone g x = []
-  part starts g x = m .start (x .0) (x .1 .keys) (x .1 .decls) ++ (gather (m .op) (x .1 .ops) ++ unlessGlued g (m .end (x .0) (x .1 .term)))
-  part (goes h) g x = gather (m .op) (x .1 .ops) ++ unlessGlued g (m .end h (x .1 .term))
+  part starts g x = m .start (x .0) (x .1 .keys) (x .1 .decls) ++ (gather (m .op) (x .1 .ops) ++ unlessAbsorbs g (m .end (x .0) (x .1 .term)))
+  part (goes h) g x = gather (m .op) (x .1 .ops) ++ unlessAbsorbs g (m .end h (x .1 .term))
 
 -- of the point at i
 unfoldable pub partAt : {A : Type 0} → (CfgPoint → ℕ) → Pass A → Table → ℕ → List A
-unfolding part statusFrom glueAt
-partAt c m T i = part m (statusAt c T i) (glueAt c T i) (getD T i noPair)
+unfolding part statusFrom absorbsHere
+partAt c m T i = part m (statusAt c T i) (absorbsHere c T i) (getD T i noPair)

@@ -5,11 +5,11 @@ use mathlib.Core.List.{List, [], _∷_, _++_, append-assoc, append-nil}
 use Prim.Native.Nat.{ℕ, zero, suc, _≤_, _<_}
 use native.Mathlib.Omega.{arith}
 use lib.ListN.{getD, length}
-use Rattle.laws.specs.Gather.{gather-append}
-use Rattle.laws.specs.Lists.{gather}
+use Rattle.general_laws.specs.Gather.{gather-append}
+use Rattle.general_laws.specs.Lists.{gather}
 use Rattle.lifting.specs.Points.{CfgPoint, BlockLifting, Table}
 use Rattle.lifting.specs.Absorb.{keepIf, keep}
-use Rattle.lifting_blocks.specs.Flat.{upTo, Status, gone, goes, Carry, fresh, off, on, byCount, status, carry, noPair, glues, glued, glueAt, statusFrom, Fused, fuseStep, fuseFrom, fuseAll, Pass, blockParts, part, partAt}
+use Rattle.lifting_blocks.specs.Flat.{upTo, Status, gone, goes, Carry, fresh, off, on, byCount, status, carry, noPair, absorbsNext, absorbsFirst, absorbsHere, statusFrom, AbsorbedRun, absorbStep, absorbFrom, absorbRuns, Pass, blockParts, part, partAt}
 
 -- the first taken off
 pub upTo-cons : {A : Type 0} (f : ℕ → List A) (n : ℕ) → upTo f (suc n) ≡ f 0 ++ upTo (λ i. f (suc i)) n
@@ -28,15 +28,15 @@ gather-upTo g f zero = refl
 gather-upTo {A} {B} g f (suc n) = gather-append g (upTo f n) (f n) ∙ ap (λ (l : List B). l ++ gather g (f n)) (gather-upTo g f n)
 
 -- the point at i absorbs the one at the next position; the last one absorbs none
-pub glue-next : (c : CfgPoint → ℕ) (T : Table) (i : ℕ) → suc i < length T → glueAt c T i ≡ glues c (getD T i noPair) (getD T (suc i) noPair)
-unfolding glueAt glued
+pub glue-next : (c : CfgPoint → ℕ) (T : Table) (i : ℕ) → suc i < length T → absorbsHere c T i ≡ absorbsNext c (getD T i noPair) (getD T (suc i) noPair)
+unfolding absorbsHere absorbsFirst
 glue-next c [] i h = absurd (omega arith)
 glue-next c (x ∷ []) i h = absurd (omega arith)
 glue-next c (x ∷ y ∷ T) zero h = refl
 glue-next c (x ∷ y ∷ T) (suc i) h = glue-next c (y ∷ T) i (omega arith)
 
-pub glue-last : (c : CfgPoint → ℕ) (T : Table) (i : ℕ) → length T ≤ suc i → glueAt c T i ≡ false
-unfolding glueAt glued
+pub glue-last : (c : CfgPoint → ℕ) (T : Table) (i : ℕ) → length T ≤ suc i → absorbsHere c T i ≡ false
+unfolding absorbsHere absorbsFirst
 glue-last c [] i h = refl
 glue-last c (x ∷ []) zero h = refl
 glue-last c (x ∷ []) (suc i) h = refl
@@ -47,19 +47,19 @@ module _ (c : CfgPoint → ℕ) {A : Type 0} (m : Pass A) where
   -- the parts, from what is carried over
   unfoldable partsFrom : Carry → Table → List A
   partsFrom g [] = []
-  partsFrom g (x ∷ T) = part m (status g (c (x .0))) (glued c x T) x ++ partsFrom (carry (status g (c (x .0))) (x .0) (glued c x T)) T
+  partsFrom g (x ∷ T) = part m (status g (c (x .0))) (absorbsFirst c x T) x ++ partsFrom (carry (status g (c (x .0))) (x .0) (absorbsFirst c x T)) T
 
   -- what is left of a block with the label of h, and what stands behind it
   abbrev ends : CfgPoint → BlockLifting → Table → List A
   ends h b R = gather (m .op) (b .ops) ++ (m .end h (b .term) ++ blockParts m (keep c R))
 
   record Claims (x : CfgPoint × BlockLifting) (T : Table) : Type 0 where
-    in-one : (h : CfgPoint) → partsFrom (on h) (x ∷ T) ≡ ends h (fuseFrom c x T .block) (fuseFrom c x T .rest)
-    in-none : partsFrom off (x ∷ T) ≡ blockParts m (keep c (fuseFrom c x T .rest))
-    anew : partsFrom fresh (x ∷ T) ≡ blockParts m (keepIf (c (x .0)) (x .0, fuseFrom c x T .block) (keep c (fuseFrom c x T .rest)))
+    in-one : (h : CfgPoint) → partsFrom (on h) (x ∷ T) ≡ ends h (absorbFrom c x T .block) (absorbFrom c x T .rest)
+    in-none : partsFrom off (x ∷ T) ≡ blockParts m (keep c (absorbFrom c x T .rest))
+    anew : partsFrom fresh (x ∷ T) ≡ blockParts m (keepIf (c (x .0)) (x .0, absorbFrom c x T .block) (keep c (absorbFrom c x T .rest)))
 
   last-on : (h : CfgPoint) (x : CfgPoint × BlockLifting) → partsFrom (on h) (x ∷ []) ≡ ends h (x .1) []
-  unfolding partsFrom part glued blockParts
+  unfolding partsFrom part absorbsFirst blockParts
   last-on h x = append-assoc (gather (m .op) (x .1 .ops)) (m .end h (x .1 .term)) []
 
   last-anew : (n : ℕ) (x : CfgPoint × BlockLifting) → part m (byCount n) false x ++ [] ≡ blockParts m (keepIf n x [])
@@ -68,8 +68,8 @@ module _ (c : CfgPoint → ℕ) {A : Type 0} (m : Pass A) where
   last-anew (suc n) x = refl
 
   module _ (x y : CfgPoint × BlockLifting) (U : Table) (ih : Claims y U) where
-    abbrev r : Fused
-    r = fuseFrom c y U
+    abbrev r : AbsorbedRun
+    r = absorbFrom c y U
 
     abbrev own : List A
     own = gather (m .op) (x .1 .ops)
@@ -77,7 +77,7 @@ module _ (c : CfgPoint → ℕ) {A : Type 0} (m : Pass A) where
     abbrev begun : List A
     begun = m .start (x .0) (x .1 .keys) (x .1 .decls)
 
-    step-on : (h : CfgPoint) (g : Bool) → part m (goes h) g x ++ partsFrom (carry (goes h) (x .0) g) (y ∷ U) ≡ ends h (fuseStep g x (y .0) r .block) (fuseStep g x (y .0) r .rest)
+    step-on : (h : CfgPoint) (g : Bool) → part m (goes h) g x ++ partsFrom (carry (goes h) (x .0) g) (y ∷ U) ≡ ends h (absorbStep g x (y .0) r .block) (absorbStep g x (y .0) r .rest)
     unfolding part
     step-on h true =
         let theirs : List A = gather (m .op) (r .block .ops) in
@@ -87,12 +87,12 @@ module _ (c : CfgPoint → ℕ) {A : Type 0} (m : Pass A) where
         ∙ ap (λ (l : List A). l ++ last) (sym (gather-append (m .op) (x .1 .ops) (r .block .ops)))
     step-on h false = ap (λ (l : List A). (own ++ m .end h (x .1 .term)) ++ l) (ih .anew) ∙ append-assoc own (m .end h (x .1 .term)) (blockParts m (keep c ((y .0, r .block) ∷ r .rest)))
 
-    step-off : (g : Bool) → partsFrom (carry gone (x .0) g) (y ∷ U) ≡ blockParts m (keep c (fuseStep g x (y .0) r .rest))
+    step-off : (g : Bool) → partsFrom (carry gone (x .0) g) (y ∷ U) ≡ blockParts m (keep c (absorbStep g x (y .0) r .rest))
     step-off true = ih .in-none
     step-off false = ih .anew
 
     step-anew : (n : ℕ) (g : Bool) → part m (byCount n) g x ++ partsFrom (carry (byCount n) (x .0) g) (y ∷ U)
-        ≡ blockParts m (keepIf n (x .0, fuseStep g x (y .0) r .block) (keep c (fuseStep g x (y .0) r .rest)))
+        ≡ blockParts m (keepIf n (x .0, absorbStep g x (y .0) r .block) (keep c (absorbStep g x (y .0) r .rest)))
     unfolding part blockParts
     step-anew zero g = step-off g
     step-anew (suc n) true =
@@ -104,37 +104,37 @@ module _ (c : CfgPoint → ℕ) {A : Type 0} (m : Pass A) where
     step-anew (suc n) false = ap (λ (l : List A). (begun ++ (own ++ m .end (x .0) (x .1 .term))) ++ l) (ih .anew)
 
   claims : (x : CfgPoint × BlockLifting) (T : Table) → Claims x T
-  unfolding partsFrom fuseFrom glued part blockParts
+  unfolding partsFrom absorbFrom absorbsFirst part blockParts
   claims x [] = record { in-one = λ h. last-on h x; in-none = refl; anew = last-anew (c (x .0)) x }
   claims x (y ∷ U) = record {
-    in-one = λ h. step-on x y U (claims y U) h (glues c x y);
-    in-none = step-off x y U (claims y U) (glues c x y);
-    anew = step-anew x y U (claims y U) (c (x .0)) (glues c x y);
+    in-one = λ h. step-on x y U (claims y U) h (absorbsNext c x y);
+    in-none = step-off x y U (claims y U) (absorbsNext c x y);
+    anew = step-anew x y U (claims y U) (c (x .0)) (absorbsNext c x y);
   }
 
-  fused-parts : (T : Table) → blockParts m (keep c (fuseAll c T)) ≡ partsFrom fresh T
-  unfolding fuseAll partsFrom blockParts
+  fused-parts : (T : Table) → blockParts m (keep c (absorbRuns c T)) ≡ partsFrom fresh T
+  unfolding absorbRuns partsFrom blockParts
   fused-parts [] = refl
   fused-parts (x ∷ T) = sym (claims x T .anew)
 
   -- by position
-  status-shift : (g : Carry) (x : CfgPoint × BlockLifting) (T : Table) (i : ℕ) → statusFrom c g (x ∷ T) (suc i) ≡ statusFrom c (carry (status g (c (x .0))) (x .0) (glued c x T)) T i
-  unfolding statusFrom glueAt
+  status-shift : (g : Carry) (x : CfgPoint × BlockLifting) (T : Table) (i : ℕ) → statusFrom c g (x ∷ T) (suc i) ≡ statusFrom c (carry (status g (c (x .0))) (x .0) (absorbsFirst c x T)) T i
+  unfolding statusFrom absorbsHere
   status-shift g x T zero = refl
-  status-shift g x T (suc i) = ap (λ (s : Status). status (carry s (getD T i noPair .0) (glueAt c T i)) (c (getD T (suc i) noPair .0))) (status-shift g x T i)
+  status-shift g x T (suc i) = ap (λ (s : Status). status (carry s (getD T i noPair .0) (absorbsHere c T i)) (c (getD T (suc i) noPair .0))) (status-shift g x T i)
 
   abbrev at : Carry → Table → ℕ → List A
-  at g T i = part m (statusFrom c g T i) (glueAt c T i) (getD T i noPair)
+  at g T i = part m (statusFrom c g T i) (absorbsHere c T i) (getD T i noPair)
 
   by-position : (g : Carry) (T : Table) → partsFrom g T ≡ upTo (at g T) (length T)
-  unfolding partsFrom upTo statusFrom glueAt
+  unfolding partsFrom upTo statusFrom absorbsHere
   by-position g [] = refl
   by-position g (x ∷ T) =
-      let k : Carry = carry (status g (c (x .0))) (x .0) (glued c x T) in
-      ap (λ (l : List A). part m (status g (c (x .0))) (glued c x T) x ++ l)
-      (by-position k T ∙ upTo-same (at k T) (λ i. at g (x ∷ T) (suc i)) (λ i. ap (λ (s : Status). part m s (glueAt c T i) (getD T i noPair)) (sym (status-shift g x T i))) (length T))
+      let k : Carry = carry (status g (c (x .0))) (x .0) (absorbsFirst c x T) in
+      ap (λ (l : List A). part m (status g (c (x .0))) (absorbsFirst c x T) x ++ l)
+      (by-position k T ∙ upTo-same (at k T) (λ i. at g (x ∷ T) (suc i)) (λ i. ap (λ (s : Status). part m s (absorbsHere c T i) (getD T i noPair)) (sym (status-shift g x T i))) (length T))
       ∙ sym (upTo-cons (at g (x ∷ T)) (length T))
 
-  pub parts-flat : (T : Table) → blockParts m (keep c (fuseAll c T)) ≡ upTo (partAt c m T) (length T)
+  pub parts-flat : (T : Table) → blockParts m (keep c (absorbRuns c T)) ≡ upTo (partAt c m T) (length T)
   unfolding partAt
   parts-flat T = fused-parts T ∙ by-position fresh T

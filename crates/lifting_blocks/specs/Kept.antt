@@ -7,16 +7,16 @@ use mathlib.Core.Option.{Option, some}
 use Prim.Native.Nat.{_<_}
 use native.Mathlib.Omega.{arith}
 use lib.ListN.{length}
-use Rattle.laws.specs.Lists.{choose, find}
+use Rattle.general_laws.specs.Lists.{choose, find}
 use Rattle.lifting.specs.Ast.{Func, Value}
 use Rattle.lifting.specs.Parts.{valsOr}
 use Rattle.lifting.specs.Points.{BlockLifting, CfgPoint, Table, blockOr, edgeOf, eqPoint, points}
 use Rattle.lifting.specs.Walk.{walkOf}
 use Rattle.lifting.specs.Absorb.{absorb, kept, labels, useCount}
-use Rattle.laws.specs.Members.{All, In, all-from, all-in, in-cases, in-nil}
+use Rattle.general_laws.specs.Members.{All, In, all-from, all-in, in-cases, in-nil}
 use Rattle.lifting_runs.specs.AbsorbCount.{in-count}
 use Rattle.lifting_runs.specs.AbsorbAll.{Kept, absorb-kept, find-keep}
-use Rattle.laws.specs.Tests.{find-in}
+use Rattle.general_laws.specs.Tests.{find-in}
 use Rattle.lifting_runs.specs.Each.{each-absorbed}
 use Rattle.lifting_runs.specs.Tour.{find-unique, in-points}
 use Rattle.lifting_runs.specs.KeptTerms.{SameKeys, Shape, absorb-shape, in-keep, in-uses, same-some}

@@ -12,7 +12,7 @@ use lib.ListN.{length}
 use borrow.Author.Tests.{eqb-false, eqb-true}
 use Rattle.opcodes.specs.Table.{opcodeOf, table}
 use Rattle.opcodes.specs.declared.InstKind.the-variants.{BranchConditional}
-use Rattle.laws.specs.Lists.{within}
+use Rattle.general_laws.specs.Lists.{within}
 use Rattle.lifting.specs.Ast.{ControlInst, ControlInstKind, DataInstKind, Decl, Func, Node, Value, block, boolCond, branch, call, exit, exitInvocation, ext, inst, loop, return, select, selectBranch, spvInst, unreachable}
 use Rattle.lifting.specs.Parts.{childrenOf, ctrlOf, nodeOf, opOf, regionOf}
 use Rattle.lifting.specs.References.{referencesHold}
@@ -23,9 +23,9 @@ use Rattle.lifting.specs.Walk.{Place, always, childTerm, exitBlock, inBlock, in
 use Rattle.lifting.specs.Absorb.{kept}
 use Rattle.lifting.specs.Ids.{idOf, label, labelOf, names}
 use Rattle.lifting.specs.Instructions.{Instruction, bodyInsts, functionInst, instructions, labelInst, mergeInsts, opInst, opOpcode, paramInst, paramInsts, phiInst, phiInsts, termInst, termOpcode}
-use Rattle.laws.specs.Members.{All, In, NoDup, all-from, all-in, here, in-cases, in-nil, nodup-map}
+use Rattle.general_laws.specs.Members.{All, In, NoDup, all-from, all-in, here, in-cases, in-nil, nodup-map}
 use Rattle.lifting_runs.specs.Accepted.{FreeKind, FreeOp, WayFit}
-use Rattle.laws.specs.Tests.{both, distinct-once}
+use Rattle.general_laws.specs.Tests.{both, distinct-once}
 use Rattle.lifting_runs.specs.Refers.{refers}
 use Rattle.lifting_runs.specs.Fits.{ctrl-differs, ctrl-tests, forest}
 use Rattle.lifting_runs.specs.Each.{Each, each-kept, every-walked}

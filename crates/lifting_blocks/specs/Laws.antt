@@ -7,7 +7,7 @@ use mathlib.Core.Option.{none}
 use Prim.Native.Nat.{ℕ, suc, _+_, _<_}
 use lib.Dec.{ltb}
 use lib.ListN.{drop, getD, length}
-use Rattle.laws.specs.Lists.{every}
+use Rattle.general_laws.specs.Lists.{every}
 use Rattle.lifting.specs.Ast.{Func, Value}
 use Rattle.lifting.specs.References.{named}
 use Rattle.lifting.specs.Points.{BlockLifting, CfgPoint, Table, Terminator, edgeOf, points, regionEntry, straight}
@@ -17,11 +17,11 @@ use Rattle.lifting.specs.Ids.{idOf, label, names, newId, opKeys, paramKeys, phi
 use Rattle.lifting.specs.Instructions.{blockInsts, listOf, pairs}
 use Rattle.lifting.specs.Words.{words}
 use Rattle.lifting.specs.Answer.{isSet, usedValues, valuesSet}
-use Rattle.laws.specs.Members.{In, NoDup}
+use Rattle.general_laws.specs.Members.{In, NoDup}
 use Rattle.lifting_runs.specs.Accepted.{Numbered}
 use Rattle.lifting_runs.specs.Refers.{Refers}
 use Rattle.lifting_runs.specs.Terms.{TermOk}
-use Rattle.lifting_blocks.specs.Flat.{Pass, blockParts, fuseAll, gone, noPair, partAt, statusAt, upTo}
+use Rattle.lifting_blocks.specs.Flat.{Pass, blockParts, absorbRuns, gone, noPair, partAt, statusAt, upTo}
 use Rattle.lifting_runs.specs.Shaped.{Shaped, walk-first, walk-once}
 use Rattle.lifting_blocks.specs.Chain.{chain-at, firstOf}
 use Rattle.lifting_blocks.specs.Steps.{Step, walk-steps}
@@ -80,7 +80,7 @@ module _ (F : Func) where
     pub near : Near (useCount T) T
     near = walk-near F ok
 
-    pub kept-is : K ≡ keep (useCount T) (fuseAll (useCount T) T)
+    pub kept-is : K ≡ keep (useCount T) (absorbRuns (useCount T) T)
     kept-is = kept-fused T each-once near
 
     -- Passes. Any pass over the kept blocks is one flat pass over the visited points.

@@ -4,8 +4,8 @@ use mathlib.Core.Path.{_≡_, refl, sym, ap, _∙_}
 use mathlib.Core.List.{List, [], _∷_, _++_, append-nil}
 use Prim.Native.Nat.{ℕ}
 use lib.ListN.{getD, length}
-use Rattle.laws.specs.Gather.{gather-none, gather-same, gather-single}
-use Rattle.laws.specs.Lists.{gather}
+use Rattle.general_laws.specs.Gather.{gather-none, gather-same, gather-single}
+use Rattle.general_laws.specs.Lists.{gather}
 use Rattle.lifting.specs.Ast.{Func, Value, const}
 use Rattle.lifting.specs.Parts.{opOf}
 use Rattle.lifting.specs.Points.{CfgPoint, Table, edgeOf, points}

@@ -15,7 +15,7 @@ use lib.Dec.{eqb}
 use lib.ListN.{getD, length}
 use Rattle.opcodes.specs.Table.{opcodeOf}
 use Rattle.opcodes.specs.declared.InstKind.the-variants.{LoopMerge, SelectionMerge}
-use Rattle.laws.specs.Lists.{gather}
+use Rattle.general_laws.specs.Lists.{gather}
 use Rattle.lifting.specs.Ast.{ControlInstKind, Decl, Func, Node, SelectionKind, Value, block, branch, exit, exitInvocation, loop, return, select, selectBranch, unreachable}
 use Rattle.lifting.specs.Parts.{nodeControl, nodeOf}
 use Rattle.lifting.specs.Limits.{maxControl}
@@ -25,13 +25,13 @@ use Rattle.lifting.specs.Absorb.{ifBranch, ifEmpty, ifNoMerge, ifZero, kept, si
 use Rattle.lifting.specs.Ids.{labelOf}
 use Rattle.lifting.specs.Instructions.{Instruction, bodyInsts, endInst, functionInst, instructions, labelInst, loopControl, mergeInsts, opInst, paramInst, paramInsts, phiInst, selectionControl, short, termInst}
 use Rattle.lifting.specs.BlockRun.{isMerge}
-use Rattle.laws.specs.Members.{All, In, all-from, all-in, in-left, in-nil, in-right, there}
+use Rattle.general_laws.specs.Members.{All, In, all-from, all-in, in-left, in-nil, in-right, there}
 use Rattle.lifting_runs.specs.Refers.{Refers}
 use Rattle.lifting_runs.specs.Each.{Each, each-kept, every-walked}
 use Rattle.lifting_runs.specs.EmitRun.{BlockOk, Sound, free-of}
 use Rattle.lifting_runs.specs.Listing.{all-blocks, all-body, all-list, all-params, all-phis, no-merges}
 use Rattle.lifting_runs.specs.Shaped.{Shaped}
-use Rattle.lifting_blocks.specs.Flat.{Status, glueAt, glues, gluesTo, goes, gone, noPair, part, partAt, starts, statusAt, upTo}
+use Rattle.lifting_blocks.specs.Flat.{Status, absorbsHere, absorbsNext, absorbsTarget, goes, gone, noPair, part, partAt, starts, statusAt, upTo}
 use Rattle.lifting_blocks.specs.FlatLaws.{glue-last, glue-next}
 use Rattle.lifting_blocks.specs.ListFlat.{writing}
 use Rattle.lifting_blocks.specs.Uses.{exit-merge}
@@ -163,12 +163,12 @@ module _ (F : Func) (ok : Shaped F) (first : ℕ) where
   at i = getD (walkOf F) i noPair
 
   -- it absorbs nothing, so its way out is that of the block in which it stands
-  not-glued : (i : ℕ) → soleTarget (at i .1 .term) ≡ none → glueAt (useCount T) T i ≡ false
-  unfolding glues
+  not-glued : (i : ℕ) → soleTarget (at i .1 .term) ≡ none → absorbsHere (useCount T) T i ≡ false
+  unfolding absorbsNext
   not-glued i e = by-case (decLt (suc i) (length T))
     where
-      by-case : Dec (suc i < length T) → glueAt (useCount T) T i ≡ false
-      by-case (yes h) = glue-next (useCount T) T i h ∙ ap (λ (o : Option CfgPoint). gluesTo o (at (suc i) .0) (useCount T (at (suc i) .0)) (at (suc i) .1 .keys)) e
+      by-case : Dec (suc i < length T) → absorbsHere (useCount T) T i ≡ false
+      by-case (yes h) = glue-next (useCount T) T i h ∙ ap (λ (o : Option CfgPoint). absorbsTarget o (at (suc i) .0) (useCount T (at (suc i) .0)) (at (suc i) .1 .keys)) e
       by-case (no n) = glue-last (useCount T) T i (omega arith)
 
   in-part : (j : Instruction) (x : CfgPoint × BlockLifting) (s : Status) → ¬ (s ≡ gone) → In j (mergeInsts F first T K (x .1 .term .merge)) → In j (part (writing F first T K) s false x)

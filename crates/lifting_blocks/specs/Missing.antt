@@ -10,7 +10,7 @@ use native.Mathlib.Omega.{arith}
 use lib.Dec.{ltb}
 use lib.ListN.{getD, length}
 use borrow.Author.Tests.{ltb-true}
-use Rattle.laws.specs.Lists.{every, gather}
+use Rattle.general_laws.specs.Lists.{every, gather}
 use Rattle.lifting.specs.Ast.{Decl, Func, Value, const}
 use Rattle.lifting.specs.Parts.{calleeIds, opOf}
 use Rattle.lifting.specs.Points.{BlockLifting, CfgPoint, Merge, Table, edgeOf, eqPoint, loopMerge, noMerge, points, selectionMerge}
@@ -19,16 +19,16 @@ use Rattle.lifting.specs.Absorb.{countIn, kept, mergeLabels}
 use Rattle.lifting.specs.Ids.{idOf, label, labelOf, names, newId}
 use Rattle.lifting.specs.Instructions.{Instruction, blockInsts, bodyInsts, endInst, ifUsed, functionInst, labelInst, listOf, mergeInsts, opInst, pairFrom, pairs, paramInsts, phiInst, phiInsts, termInst}
 use Rattle.lifting.specs.Answer.{blockUses, isSet, usedValues, valuesSet}
-use Rattle.laws.specs.Members.{In, all-in, gather-in, here, in-cases, in-gather, in-getD, in-left, in-map, in-nil, in-right, in-split, map-in, there}
+use Rattle.general_laws.specs.Members.{In, all-in, gather-in, here, in-cases, in-gather, in-getD, in-left, in-map, in-nil, in-right, in-split, map-in, there}
 use Rattle.lifting_runs.specs.Accepted.{Accepted, Numbered}
 use Rattle.lifting_runs.specs.Refers.{Refers}
 use Rattle.lifting_runs.specs.Used.{settles}
 use Rattle.lifting_runs.specs.AcceptedRuns.{someWorld, sound}
 use Rattle.lifting_runs.specs.AbsorbCount.{in-count}
-use Rattle.lifting_runs.specs.Ids.{Known, id-positive, number-low}
+use Rattle.lifting_runs.specs.Ids.{KnownIds, id-positive, number-low}
 use Rattle.lifting_runs.specs.EmitRun.{BlockOk, OpOk, point-named}
 use Rattle.lifting_runs.specs.Tour.{in-points}
-use Rattle.laws.specs.Tests.{every-in, find-in}
+use Rattle.general_laws.specs.Tests.{every-in, find-in}
 use Rattle.lifting_runs.specs.Shaped.{Shaped}
 use Rattle.lifting_runs.specs.Pairs.{counted-in}
 use Rattle.lifting_blocks.specs.Gathered.{insts-gather, pairs-gather}
@@ -228,12 +228,12 @@ module _ (F : Func) (ok : Shaped F) (refs : Refers F) (first : ℕ) (num : Numbe
       let w = gather-in (λ (y : CfgPoint × BlockLifting). blockUses F K (y .1)) K i in
       let b : BlockLifting = w .0 .1 in
       let fine = all-in (λ (y : CfgPoint × BlockLifting). BlockOk F first T K (y .1)) K (sound F first acc (ok .body) someWorld .all-ok) (w .0) (w .1) in
-      let known : Known F first T K v
+      let known : KnownIds F first T K v
       = elim (in-split (gather (λ o. opOf F o .operands) (b .ops)) _ (w .2)) [
-        | inl j ↦ (let o = gather-in (λ o. opOf F o .operands) (b .ops) j in all-in (Known F first T K) (opOf F (o .0) .operands) (all-in (OpOk F first T K) (b .ops) (fine .ops-ok) (o .0) (o .1) .1) v (o .2))
+        | inl j ↦ (let o = gather-in (λ o. opOf F o .operands) (b .ops) j in all-in (KnownIds F first T K) (opOf F (o .0) .operands) (all-in (OpOk F first T K) (b .ops) (fine .ops-ok) (o .0) (o .1) .1) v (o .2))
         | inr j ↦ elim (in-split (b .term .ins) _ j) [
-          | inl k ↦ all-in (Known F first T K) (b .term .ins) (fine .ins-known) v k
-          | inr k ↦ (let q = gather-in (λ q. edgeOf K (b .term) q) (b .term .targets) k in all-in (Known F first T K) (edgeOf K (b .term) (q .0)) (fine .edges-known (q .0) (q .1)) v (q .2))
+          | inl k ↦ all-in (KnownIds F first T K) (b .term .ins) (fine .ins-known) v k
+          | inr k ↦ (let q = gather-in (λ q. edgeOf K (b .term) q) (b .term .targets) k in all-in (KnownIds F first T K) (edgeOf K (b .term) (q .0)) (fine .edges-known (q .0) (q .1)) v (q .2))
         ]
       ] in
       id-positive F first T K num v known

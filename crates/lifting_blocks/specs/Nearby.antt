@@ -13,8 +13,8 @@ use Rattle.lifting.specs.Parts.{childrenOf, ctrlOf, nodeOf, regionOf}
 use Rattle.lifting.specs.Points.{BlockLifting, CfgPoint, Table, Terminator, nodeEntry, nodeExit, plain, regionEntry, regionExit}
 use Rattle.lifting.specs.Walk.{Place, always, childTerm, exitBlock, inBlock, inNode, loopTerm, rootTerm, someVals, top, walkOf}
 use Rattle.lifting.specs.Absorb.{ifEmpty, labels, soleTarget, useCount}
-use Rattle.laws.specs.Members.{In, here}
-use Rattle.lifting_runs.specs.Places.{Suffix, Visited, at-body, by-ctrl, in-case, in-loop}
+use Rattle.general_laws.specs.Members.{In, here}
+use Rattle.lifting_runs.specs.Places.{Suffix, VisitedAt, at-body, by-ctrl, in-case, in-loop}
 use Rattle.lifting_runs.specs.AbsorbCount.{sole-straight}
 use Rattle.lifting_blocks.specs.Chain.{chain-map, none-some, some-same}
 use Rattle.lifting_blocks.specs.Beside.{Leads}
@@ -37,12 +37,12 @@ module _ (F : Func) (ok : Shaped F) where
   busy : {t q : CfgPoint} → t ≡ q → 2 ≤ uses q → ¬ (uses t ≡ 1)
   busy {t} {q} e h u = omega (arith, ap uses e)
 
-  leads-from : {r n : ℕ} {q : CfgPoint} (d : Node) → Visited F r (inNode n) → nodeOf F n ≡ d → In q (labels (childTerm F d n (regionOf F r .outs))) → Uses T (regionExit r) q
+  leads-from : {r n : ℕ} {q : CfgPoint} (d : Node) → VisitedAt F r (inNode n) → nodeOf F n ≡ d → In q (labels (childTerm F d n (regionOf F r .outs))) → Uses T (regionExit r) q
   leads-from {r} {n} d v e i = from-block (laid F ok .exit-at v ∙ ap (λ (x : Node). plain (childTerm F x n (regionOf F r .outs))) e) i
 
   -- a select's exit: its cases lead there, and it is the merge label
   select-busy : {r n c : ℕ} {p : Place} {ns : List ℕ} {k : SelectionKind} {v : Value} {cs : List ℕ} {ds : List Decl} {u : ℕ}
-      → Visited F r p → Suffix (regionOf F r .nodes) (n ∷ ns) → nodeOf F n ≡ select k v cs ds u → In c cs → 2 ≤ uses (nodeExit n)
+      → VisitedAt F r p → Suffix (regionOf F r .nodes) (n ∷ ns) → nodeOf F n ≡ select k v cs ds u → In c cs → 2 ≤ uses (nodeExit n)
   select-busy {n = n} {c} {k} {v} {cs} {ds} {u} w sf e i =
       used-twice T (nodeEntry n) (regionExit c) (nodeExit n) (λ z. let o : _≡_ {A = ℕ} 0 1 = cc in omega arith) (merge-select F ok w sf e) (leads-from (select k v cs ds u) (in-case w sf e i) e here)
 
@@ -51,7 +51,7 @@ module _ (F : Func) (ok : Shaped F) where
   back-to false n c vs = here
 
   -- a loop's entry: its way back leads there too
-  pub loop-busy : {r n b : ℕ} {p : Place} {ns : List ℕ} {c : Value} {is : List Value} {u : ℕ} → Visited F r p → Suffix (regionOf F r .nodes) (n ∷ ns) → nodeOf F n ≡ loop b c is u → 2 ≤ uses (nodeEntry n)
+  pub loop-busy : {r n b : ℕ} {p : Place} {ns : List ℕ} {c : Value} {is : List Value} {u : ℕ} → VisitedAt F r p → Suffix (regionOf F r .nodes) (n ∷ ns) → nodeOf F n ≡ loop b c is u → 2 ≤ uses (nodeEntry n)
   loop-busy {n = n} {b} {ns = ns} {c} {is} {u} w sf e =
       let q = before-node F ok n ns w sf refl in
       used-twice T (q .0) (regionExit b) (nodeEntry n) (q .2 b) (q .1) (leads-from (loop b c is u) (in-loop w sf e) e (back-to (always F c) n c (regionOf F b .outs)))
@@ -84,12 +84,12 @@ module _ (F : Func) (ok : Shaped F) where
       by-targets (s ∷ []) z h = (c, s, refl, z, cc)
       by-targets (s ∷ u ∷ l) z h = absurd (let o : _≡_ {A = ℕ} 0 1 = cc in omega arith)
 
-  root-ahead : (r : ℕ) (o : Option CfgPoint) → Visited F r top → Onto F r o → Ahead uses (regionExit r, exitBlock F r top) o
+  root-ahead : (r : ℕ) (o : Option CfgPoint) → VisitedAt F r top → Onto F r o → Ahead uses (regionExit r, exitBlock F r top) o
   root-ahead r o v (n, beside, follows) t e u =
       let w = root-target r (ctrlOf F r) t e in
       by-case (w .0) (w .1) (w .2) (w .3) (w .4) (beside (w .0) (w .1) (w .2) (w .3))
     where
-      by-case : (c : ControlInst) (s : ℕ) → ctrlOf F r ≡ some c → c .to ≡ s ∷ [] → t ≡ regionEntry s → (n ≡ some s) ⊎ ((p : ℕ) × (¬ (p ≡ r)) × Visited F p top × Leads F p s) → o ≡ some t
+      by-case : (c : ControlInst) (s : ℕ) → ctrlOf F r ≡ some c → c .to ≡ s ∷ [] → t ≡ regionEntry s → (n ≡ some s) ⊎ ((p : ℕ) × (¬ (p ≡ r)) × VisitedAt F p top × Leads F p s) → o ≡ some t
       by-case c s q z h (inl k) = follows ∙ ap entryOf k ∙ ap some (sym h)
       by-case c s q z h (inr (p, apart, vp, l)) =
           absurd (busy h (used-twice T (regionExit p) (regionExit r) (regionEntry s) (λ x. apart (exit-same x)) (leads-there F ok vp l) (leads-there F ok v (c, q, subst (In s) (sym z) here))) u)
@@ -98,11 +98,11 @@ module _ (F : Func) (ok : Shaped F) where
           exit-same x = cc
 
   -- where a case or a loop's body leads is used twice
-  pub child-busy : {r n : ℕ} (t : CfgPoint) → Visited F r (inNode n) → soleTarget (exitBlock F r (inNode n) .term) ≡ some t → ¬ (uses t ≡ 1)
+  pub child-busy : {r n : ℕ} (t : CfgPoint) → VisitedAt F r (inNode n) → soleTarget (exitBlock F r (inNode n) .term) ≡ some t → ¬ (uses t ≡ 1)
   child-busy t (in-case {n} {c} w sf q i) e = busy (case-target (nodeOf F n) n (regionOf F c .outs) t q e) (select-busy w sf q i)
   child-busy t (in-loop {n} {b} w sf q) e = busy (loop-target (nodeOf F n) n (regionOf F b .outs) t q e) (loop-busy w sf q)
 
-  exit-ahead : {r : ℕ} {p : Place} (o : Option CfgPoint) → Visited F r p → (p ≡ top → Onto F r o) → Ahead uses (regionExit r, exitBlock F r p) o
+  exit-ahead : {r : ℕ} {p : Place} (o : Option CfgPoint) → VisitedAt F r p → (p ≡ top → Onto F r o) → Ahead uses (regionExit r, exitBlock F r p) o
   exit-ahead o at-body a t e u = root-ahead 0 o at-body (a refl) t e u
   exit-ahead o (by-ctrl {s} v q i) a t e u = root-ahead s o (by-ctrl v q i) (a refl) t e u
   exit-ahead o (in-case w sf q i) a t e u = absurd (child-busy t (in-case w sf q i) e u)

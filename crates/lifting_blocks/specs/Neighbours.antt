@@ -8,14 +8,14 @@ use mathlib.Core.Option.{Option, none, some}
 use Prim.Native.Nat.{ℕ}
 use native.Mathlib.Decide.{ℕ-discrete}
 use native.Mathlib.Omega.{arith}
-use Rattle.laws.specs.Lists.{choose, choose-yes, choose-no}
+use Rattle.general_laws.specs.Lists.{choose, choose-yes, choose-no}
 use Rattle.lifting.specs.Ast.{Value}
 use Rattle.lifting.specs.Points.{CfgPoint, eqPoint, BlockLifting, Table, points, blockOr, blockAt}
-use Rattle.lifting.specs.Absorb.{useCount, soleTarget, emptied, joined, fuse, refit, Absorbing, ifNoPhis, tryTarget, absorbAt, absorbAll, keepIf, keep, kept}
-use Rattle.laws.specs.Members.{In, here, there, in-nil, in-cases, in-right, NoDup}
+use Rattle.lifting.specs.Absorb.{useCount, soleTarget, emptied, joined, absorbInto, refit, Absorbing, ifNoPhis, tryTarget, absorbAt, absorbAll, keepIf, keep, kept}
+use Rattle.general_laws.specs.Members.{In, here, there, in-nil, in-cases, in-right, NoDup}
 use Rattle.lifting_runs.specs.AbsorbCount.{refit-other}
 use Rattle.lifting_runs.specs.Tour.{points-append, unique-of, find-unique}
-use Rattle.lifting_blocks.specs.Flat.{noKeys, gluesTo, glues, Fused, fuseStep, fuseFrom, fuseAll}
+use Rattle.lifting_blocks.specs.Flat.{noKeys, absorbsTarget, absorbsNext, AbsorbedRun, absorbStep, absorbFrom, absorbRuns}
 use Rattle.lifting_blocks.specs.Chain.{Chain, none-some, some-same}
 
 -- each point once
@@ -52,17 +52,17 @@ pub block-in : (T : Table) → Once T → (x : CfgPoint × BlockLifting) → In 
 block-in T o x i = ap blockOr (find-unique T (unique-of T o) (x .0) (x .1) i)
 
 -- one absorption, of a neighbour
-fuse-append : (b t : CfgPoint) (d : BlockLifting) (P L : Table) → fuse b t d (P ++ L) ≡ fuse b t d P ++ fuse b t d L
+fuse-append : (b t : CfgPoint) (d : BlockLifting) (P L : Table) → absorbInto b t d (P ++ L) ≡ absorbInto b t d P ++ absorbInto b t d L
 fuse-append b t d [] L = refl
 fuse-append b t d (x ∷ P) L = ap (λ (M : Table). (x .0, refit b t d (x .0) (x .1)) ∷ M) (fuse-append b t d P L)
 
-fuse-away : (b t : CfgPoint) (d : BlockLifting) (L : Table) → Absent b L → Absent t L → fuse b t d L ≡ L
+fuse-away : (b t : CfgPoint) (d : BlockLifting) (L : Table) → Absent b L → Absent t L → absorbInto b t d L ≡ L
 fuse-away b t d [] h k = refl
 fuse-away b t d (x ∷ L) h k =
     ap₂ (λ (e : BlockLifting) (M : Table). (x .0, e) ∷ M) (refit-other b t d (x .0) (x .1) (λ q. absent-head k (sym q)) (λ q. absent-head h (sym q)))
     (fuse-away b t d L (λ i. h (there i)) (λ i. k (there i)))
 
-fuse-pair : (x y : CfgPoint × BlockLifting) (d : BlockLifting) (L : Table) → Once (x ∷ y ∷ L) → fuse (x .0) (y .0) d (x ∷ y ∷ L) ≡ (x .0, joined (x .1) d) ∷ (y .0, emptied (y .1)) ∷ L
+fuse-pair : (x y : CfgPoint × BlockLifting) (d : BlockLifting) (L : Table) → Once (x ∷ y ∷ L) → absorbInto (x .0) (y .0) d (x ∷ y ∷ L) ≡ (x .0, joined (x .1) d) ∷ (y .0, emptied (y .1)) ∷ L
 fuse-pair x y d L o =
     ap₂ (λ (e : BlockLifting) (M : Table). (x .0, e) ∷ M) (choose-no (eqPoint (x .0) (y .0)) _ _ (absent-head (o .0)) ∙ choose-yes (eqPoint (x .0) (x .0)) (joined (x .1) d) (x .1) refl)
     (ap₂ (λ (e : BlockLifting) (M : Table). (y .0, e) ∷ M) (choose-yes (eqPoint (y .0) (y .0)) (emptied (y .1)) _ refl)
@@ -70,13 +70,13 @@ fuse-pair x y d L o =
 
 -- As the definition leaves it: an absorbed block is emptied and keeps its place, and its count is 0.
 module _ (c : CfgPoint → ℕ) where
-  abbrev laidStep : Bool → CfgPoint × BlockLifting → CfgPoint → Fused → Fused
+  abbrev laidStep : Bool → CfgPoint × BlockLifting → CfgPoint → AbsorbedRun → AbsorbedRun
   laidStep true x q r = record { block = joined (x .1) (r .block); rest = (q, emptied (r .block)) ∷ r .rest }
   laidStep false x q r = record { block = x .1; rest = (q, r .block) ∷ r .rest }
 
-  unfoldable laidFrom : CfgPoint × BlockLifting → Table → Fused
+  unfoldable laidFrom : CfgPoint × BlockLifting → Table → AbsorbedRun
   laidFrom x [] = record { block = x .1; rest = [] }
-  laidFrom x (y ∷ T) = laidStep (glues c x y) x (y .0) (laidFrom y T)
+  laidFrom x (y ∷ T) = laidStep (absorbsNext c x y) x (y .0) (laidFrom y T)
 
   abbrev lowStep : Bool → CfgPoint → (CfgPoint → ℕ) → CfgPoint → ℕ
   lowStep true t g = λ q. choose (eqPoint q t) 0 (g q)
@@ -84,7 +84,7 @@ module _ (c : CfgPoint → ℕ) where
 
   unfoldable lowFrom : CfgPoint × BlockLifting → Table → CfgPoint → ℕ
   lowFrom x [] = c
-  lowFrom x (y ∷ T) = lowStep (glues c x y) (y .0) (lowFrom y T)
+  lowFrom x (y ∷ T) = lowStep (absorbsNext c x y) (y .0) (lowFrom y T)
 
   unfoldable laid : Table → Table
   laid [] = []
@@ -98,7 +98,7 @@ module _ (c : CfgPoint → ℕ) where
   laid-keys : (x : CfgPoint × BlockLifting) (T : Table) → laidFrom x T .block .keys ≡ x .1 .keys
   unfolding laidFrom
   laid-keys x [] = refl
-  laid-keys x (y ∷ T) = by-case (glues c x y)
+  laid-keys x (y ∷ T) = by-case (absorbsNext c x y)
     where
       by-case : (g : Bool) → laidStep g x (y .0) (laidFrom y T) .block .keys ≡ x .1 .keys
       by-case true = refl
@@ -107,7 +107,7 @@ module _ (c : CfgPoint → ℕ) where
   laid-points : (x : CfgPoint × BlockLifting) (T : Table) → points (laidFrom x T .rest) ≡ points T
   unfolding laidFrom
   laid-points x [] = refl
-  laid-points x (y ∷ T) = by-case (glues c x y) (laid-points y T)
+  laid-points x (y ∷ T) = by-case (absorbsNext c x y) (laid-points y T)
     where
       by-case : (g : Bool) → points (laidFrom y T .rest) ≡ points T → points (laidStep g x (y .0) (laidFrom y T) .rest) ≡ y .0 ∷ points T
       by-case true e = ap (λ (l : List CfgPoint). y .0 ∷ l) e
@@ -117,7 +117,7 @@ module _ (c : CfgPoint → ℕ) where
   low-absent : (x : CfgPoint × BlockLifting) (T : Table) (p : CfgPoint) → Absent p T → lowFrom x T p ≡ c p
   unfolding lowFrom
   low-absent x [] p a = refl
-  low-absent x (y ∷ T) p a = by-case (glues c x y) (low-absent y T p (λ i. a (there i)))
+  low-absent x (y ∷ T) p a = by-case (absorbsNext c x y) (low-absent y T p (λ i. a (there i)))
     where
       by-case : (g : Bool) → lowFrom y T p ≡ c p → lowStep g (y .0) (lowFrom y T) p ≡ c p
       by-case true e = choose-no (eqPoint p (y .0)) 0 (lowFrom y T p) (absent-head a) ∙ e
@@ -126,7 +126,7 @@ module _ (c : CfgPoint → ℕ) where
   low-one : (x : CfgPoint × BlockLifting) (T : Table) (p : CfgPoint) → lowFrom x T p ≡ 1 → c p ≡ 1
   unfolding lowFrom
   low-one x [] p e = e
-  low-one x (y ∷ T) p e = by-case (glues c x y) (low-one y T p) e
+  low-one x (y ∷ T) p e = by-case (absorbsNext c x y) (low-one y T p) e
     where
       by-point : (d : Dec (p ≡ y .0)) → (lowFrom y T p ≡ 1 → c p ≡ 1) → choose d 0 (lowFrom y T p) ≡ 1 → c p ≡ 1
       by-point (yes q) h e = absurd (omega arith)
@@ -142,25 +142,25 @@ module _ (c : CfgPoint → ℕ) where
   keep-agree (x ∷ L) p g a =
       ap₂ (λ (k : ℕ) (M : Table). keepIf k x M) (choose-no (eqPoint (x .0) p) 0 (g (x .0)) (λ e. absent-head a (sym e))) (keep-agree L p g (λ i. a (there i)))
 
-  blocks-same : (x : CfgPoint × BlockLifting) (T : Table) → laidFrom x T .block ≡ fuseFrom c x T .block
-  unfolding laidFrom fuseFrom
+  blocks-same : (x : CfgPoint × BlockLifting) (T : Table) → laidFrom x T .block ≡ absorbFrom c x T .block
+  unfolding laidFrom absorbFrom
   blocks-same x [] = refl
-  blocks-same x (y ∷ T) = by-case (glues c x y) (blocks-same y T)
+  blocks-same x (y ∷ T) = by-case (absorbsNext c x y) (blocks-same y T)
     where
-      by-case : (g : Bool) → laidFrom y T .block ≡ fuseFrom c y T .block → laidStep g x (y .0) (laidFrom y T) .block ≡ fuseStep g x (y .0) (fuseFrom c y T) .block
+      by-case : (g : Bool) → laidFrom y T .block ≡ absorbFrom c y T .block → laidStep g x (y .0) (laidFrom y T) .block ≡ absorbStep g x (y .0) (absorbFrom c y T) .block
       by-case true e = ap (joined (x .1)) e
       by-case false e = refl
 
-  keep-laid : (x : CfgPoint × BlockLifting) (T : Table) → Once T → keep (lowFrom x T) (laidFrom x T .rest) ≡ keep c (fuseFrom c x T .rest)
-  unfolding laidFrom fuseFrom lowFrom
+  keep-laid : (x : CfgPoint × BlockLifting) (T : Table) → Once T → keep (lowFrom x T) (laidFrom x T .rest) ≡ keep c (absorbFrom c x T .rest)
+  unfolding laidFrom absorbFrom lowFrom
   keep-laid x [] o = refl
-  keep-laid x (y ∷ T) o = by-case (glues c x y) (keep-laid y T (o .1))
+  keep-laid x (y ∷ T) o = by-case (absorbsNext c x y) (keep-laid y T (o .1))
     where
       R : Table
       R = laidFrom y T .rest
 
-      by-case : (g : Bool) → keep (lowFrom y T) R ≡ keep c (fuseFrom c y T .rest)
-          → keep (lowStep g (y .0) (lowFrom y T)) (laidStep g x (y .0) (laidFrom y T) .rest) ≡ keep c (fuseStep g x (y .0) (fuseFrom c y T) .rest)
+      by-case : (g : Bool) → keep (lowFrom y T) R ≡ keep c (absorbFrom c y T .rest)
+          → keep (lowStep g (y .0) (lowFrom y T)) (laidStep g x (y .0) (laidFrom y T) .rest) ≡ keep c (absorbStep g x (y .0) (absorbFrom c y T) .rest)
       by-case true e =
           ap (λ (k : ℕ). keepIf k (y .0, emptied (laidFrom y T .block)) (keep (λ q. choose (eqPoint q (y .0)) 0 (lowFrom y T q)) R)) (choose-yes (eqPoint (y .0) (y .0)) 0 (lowFrom y T (y .0)) refl)
           ∙ keep-agree R (y .0) (lowFrom y T) (rw (laid-points y T) (o .0))
@@ -169,8 +169,8 @@ module _ (c : CfgPoint → ℕ) where
           ap (λ (k : ℕ). keepIf k (y .0, laidFrom y T .block) (keep (lowFrom y T) R)) (low-absent y T (y .0) (o .0))
           ∙ ap₂ (λ (b : BlockLifting) (M : Table). keepIf (c (y .0)) (y .0, b) M) (blocks-same y T) e
 
-  keep-all : (T : Table) → Once T → keep (low T) (laid T) ≡ keep c (fuseAll c T)
-  unfolding low laid fuseAll
+  keep-all : (T : Table) → Once T → keep (low T) (laid T) ≡ keep c (absorbRuns c T)
+  unfolding low laid absorbRuns
   keep-all [] o = refl
   keep-all (x ∷ T) o =
       ap (λ (k : ℕ). keepIf k (x .0, laidFrom x T .block) (keep (lowFrom x T) (laidFrom x T .rest))) (low-absent x T (x .0) (o .0))
@@ -198,7 +198,7 @@ module _ (c : CfgPoint → ℕ) where
       by-target (some t) e = by-count t _ e (ℕ-discrete (c t) 1)
 
   module _ (P : Table) (x y : CfgPoint × BlockLifting) (U : Table) (once : Once (P ++ (x ∷ y ∷ U))) (near : Ahead c x (some (y .0))) where
-    abbrev r : Fused
+    abbrev r : AbsorbedRun
     r = laidFrom y U
 
     abbrev before : Table
@@ -224,12 +224,12 @@ module _ (c : CfgPoint → ℕ) where
 
     -- the state after y was absorbed
     taken : CfgPoint → Absorbing
-    taken t = state (fuse (x .0) t (blockAt before t) before) (λ q. choose (eqPoint q t) 0 (lowFrom y U q))
+    taken t = state (absorbInto (x .0) t (blockAt before t) before) (λ q. choose (eqPoint q t) 0 (lowFrom y U q))
 
     taken-left : taken (y .0) ≡ left true
     unfolding taken
     taken-left = ap (λ (T : Table). state T (λ q. choose (eqPoint q (y .0)) 0 (lowFrom y U q)))
-        (ap (λ (d : BlockLifting). fuse (x .0) (y .0) d before) second
+        (ap (λ (d : BlockLifting). absorbInto (x .0) (y .0) d before) second
         ∙ fuse-append (x .0) (y .0) (r .block) P _
         ∙ ap₂ (λ (A B : Table). A ++ B) (fuse-away (x .0) (y .0) (r .block) P (once-apart P _ once-before (x .0) here) (once-apart P _ once-before (y .0) (there here)))
         (fuse-pair x (y .0, r .block) (r .block) (r .rest) own))
@@ -250,13 +250,13 @@ module _ (c : CfgPoint → ℕ) where
     by-count t e (no q) (yes p) (no u) = refl
     by-count t e (no q) (no p) h = refl
 
-    by-target : (w : Option CfgPoint) → soleTarget (x .1 .term) ≡ w → tryTarget (x .0) w S ≡ left (gluesTo w (y .0) (c (y .0)) (y .1 .keys))
+    by-target : (w : Option CfgPoint) → soleTarget (x .1 .term) ≡ w → tryTarget (x .0) w S ≡ left (absorbsTarget w (y .0) (c (y .0)) (y .1 .keys))
     unfolding taken
     by-target none e = refl
     by-target (some t) e = by-count t e (ℕ-discrete (lowFrom y U t) 1) (eqPoint t (y .0)) (ℕ-discrete (c (y .0)) 1)
 
-    turn-more : absorbAt (x .0) S ≡ left (glues c x y)
-    unfolding glues
+    turn-more : absorbAt (x .0) S ≡ left (absorbsNext c x y)
+    unfolding absorbsNext
     turn-more = ap (λ (b : BlockLifting). tryTarget (x .0) (soleTarget (b .term)) S) (at-entry P x _ once-before) ∙ by-target (soleTarget (x .1 .term)) refl
 
   -- all points, the last one first
@@ -272,6 +272,6 @@ module _ (c : CfgPoint → ℕ) where
       ∙ ap (λ (T : Table). state T (lowFrom y U)) (shift (laid (y ∷ U))))
       ∙ turn-more P x y U o (n .0)
 
-pub kept-fused : (T : Table) → Once T → Near (useCount T) T → kept T ≡ keep (useCount T) (fuseAll (useCount T) T)
+pub kept-fused : (T : Table) → Once T → Near (useCount T) T → kept T ≡ keep (useCount T) (absorbRuns (useCount T) T)
 unfolding kept
 kept-fused T o n = ap (λ (s : Absorbing). keep (s .counts) (s .table)) (absorbed (useCount T) [] T o n) ∙ keep-all (useCount T) T o

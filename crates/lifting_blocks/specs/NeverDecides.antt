@@ -10,15 +10,15 @@ use Prim.Native.Nat.{ℕ, _≤_}
 use native.Mathlib.Decide.{ℕ-discrete}
 use native.Mathlib.Omega.{arith}
 use lib.ListN.{length}
-use Rattle.laws.specs.Lists.{choose, find}
+use Rattle.general_laws.specs.Lists.{choose, find}
 use Rattle.lifting.specs.Ast.{Func, Node, Value, block, select, loop, exit}
 use Rattle.lifting.specs.Parts.{nodeOf, regionOf}
 use Rattle.lifting.specs.Points.{BlockLifting, CfgPoint, Table, blockAt, blockOr, eqPoint, nodeEntry, nodeExit, nothingHere, plain, points, regionEntry, regionExit}
 use Rattle.lifting.specs.Walk.{Place, exitBlock, inBlock, inNode, walkOf}
 use Rattle.lifting.specs.Absorb.{Absorbing, absorb, absorbAll, ifNoPhis, keep, kept, soleTarget, tryTarget, useCount}
-use Rattle.laws.specs.Members.{In, all-from, all-in, here}
-use Rattle.laws.specs.Tests.{find-in}
-use Rattle.lifting_runs.specs.Places.{Suffix, Visited}
+use Rattle.general_laws.specs.Members.{In, all-from, all-in, here}
+use Rattle.general_laws.specs.Tests.{find-in}
+use Rattle.lifting_runs.specs.Places.{Suffix, VisitedAt}
 use Rattle.lifting_runs.specs.AbsorbCount.{block-keys, sole-straight}
 use Rattle.lifting_runs.specs.Each.{Each, each-at, each-fuse, taken}
 use Rattle.lifting_runs.specs.Terms.{TermOk}
@@ -98,7 +98,7 @@ module _ (F : Func) (ok : Shaped F) where
   abbrev Busy : CfgPoint × BlockLifting → Type 0
   Busy x = ¬ (x .1 .defaults ≡ []) → 2 ≤ useCount T (x .0)
 
-  in-busy : {r n : ℕ} {p : Place} {ns : List ℕ} (d : Node) → nodeOf F n ≡ d → Visited F r p → Suffix (regionOf F r .nodes) (n ∷ ns) → Busy (nodeEntry n, inBlock F d n)
+  in-busy : {r n : ℕ} {p : Place} {ns : List ℕ} (d : Node) → nodeOf F n ≡ d → VisitedAt F r p → Suffix (regionOf F r .nodes) (n ∷ ns) → Busy (nodeEntry n, inBlock F d n)
   in-busy (block is) e v sf m = absurd (m refl)
   in-busy (select k w cs ds u) e v sf m = absurd (m refl)
   in-busy (loop b c is u) e v sf m = loop-busy F ok v sf e

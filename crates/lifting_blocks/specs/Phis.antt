@@ -7,20 +7,20 @@ use mathlib.Core.Option.{Option, none, some}
 use Prim.Native.Nat.{ℕ, zero, suc, _<_}
 use native.Mathlib.Decide.{ℕ-discrete}
 use native.Mathlib.Omega.{arith}
-use Rattle.laws.specs.Gather.{gather-append}
-use Rattle.laws.specs.Lists.{choose, find, gather}
+use Rattle.general_laws.specs.Gather.{gather-append}
+use Rattle.general_laws.specs.Lists.{choose, find, gather}
 use Rattle.lifting.specs.Ast.{Func, Node, Value, block, select, loop, exit}
 use Rattle.lifting.specs.Parts.{nodeOf, regionOf, valsOr}
 use Rattle.lifting.specs.Points.{BlockLifting, CfgPoint, Table, Terminator, blockAt, blockOr, edgeOf, eqPoint, nodeEntry, nodeExit, regionEntry, regionExit}
 use Rattle.lifting.specs.Walk.{Place, entryBlock, inBlock, nextPoint, outBlock, walkOf}
 use Rattle.lifting.specs.Absorb.{absorb, emptied, keep, keepIf, kept, soleTarget, useCount}
 use Rattle.lifting.specs.Ids.{phiKeys}
-use Rattle.laws.specs.Members.{All, In, gather-in, here, in-cases, in-gather, in-nil}
-use Rattle.lifting_runs.specs.Places.{Suffix, Visited, at-body, by-ctrl, in-case, in-loop}
-use Rattle.laws.specs.Tests.{find-in}
+use Rattle.general_laws.specs.Members.{All, In, gather-in, here, in-cases, in-gather, in-nil}
+use Rattle.lifting_runs.specs.Places.{Suffix, VisitedAt, at-body, by-ctrl, in-case, in-loop}
+use Rattle.general_laws.specs.Tests.{find-in}
 use Rattle.lifting_runs.specs.AbsorbAll.{find-keep}
 use Rattle.lifting_runs.specs.KeptTerms.{SameKeys, absorb-shape, in-keep, keep-find}
-use Rattle.lifting_blocks.specs.Flat.{fuseAll, fuseFrom, fuseStep, glues, gluesTo, noKeys}
+use Rattle.lifting_blocks.specs.Flat.{absorbRuns, absorbFrom, absorbStep, absorbsNext, absorbsTarget, noKeys}
 use Rattle.lifting_blocks.specs.Chain.{chain-all}
 use Rattle.lifting_runs.specs.Shaped.{Shaped, leads, tidy, walk-once}
 use Rattle.lifting_blocks.specs.Steps.{Step, step-entry, step-exit, step-in, step-out, walk-steps}
@@ -59,8 +59,8 @@ module _ (c : CfgPoint → ℕ) where
   no-keys [] e = refl
   no-keys (k ∷ ks) e = absurd (false≢true e)
 
-  glued-keys : (x y : CfgPoint × BlockLifting) → glues c x y ≡ true → y .1 .keys ≡ []
-  unfolding glues
+  glued-keys : (x y : CfgPoint × BlockLifting) → absorbsNext c x y ≡ true → y .1 .keys ≡ []
+  unfolding absorbsNext
   glued-keys x y e = by-target (soleTarget (x .1 .term)) e
     where
       by-case : {P Q : Type 0} (d : Dec P) (g : Dec Q) → choose d (choose g (noKeys (y .1 .keys)) false) false ≡ true → y .1 .keys ≡ []
@@ -68,39 +68,39 @@ module _ (c : CfgPoint → ℕ) where
       by-case (yes p) (no q) e = absurd (false≢true e)
       by-case (no p) g e = absurd (false≢true e)
 
-      by-target : (o : Option CfgPoint) → gluesTo o (y .0) (c (y .0)) (y .1 .keys) ≡ true → y .1 .keys ≡ []
+      by-target : (o : Option CfgPoint) → absorbsTarget o (y .0) (c (y .0)) (y .1 .keys) ≡ true → y .1 .keys ≡ []
       by-target none e = absurd (false≢true e)
       by-target (some t) e = by-case (eqPoint t (y .0)) (ℕ-discrete (c (y .0)) 1) e
 
   -- a block that absorbs keeps its phis
-  fused-at : (x : CfgPoint × BlockLifting) (T : Table) → (fuseFrom c x T .block .keys ≡ x .1 .keys) × (emptied (fuseFrom c x T .block) ≡ emptied (x .1))
-  unfolding fuseFrom
+  fused-at : (x : CfgPoint × BlockLifting) (T : Table) → (absorbFrom c x T .block .keys ≡ x .1 .keys) × (emptied (absorbFrom c x T .block) ≡ emptied (x .1))
+  unfolding absorbFrom
   fused-at x [] = (refl, refl)
-  fused-at x (y ∷ T) = by-case (glues c x y)
+  fused-at x (y ∷ T) = by-case (absorbsNext c x y)
     where
-      by-case : (g : Bool) → (fuseStep g x (y .0) (fuseFrom c y T) .block .keys ≡ x .1 .keys) × (emptied (fuseStep g x (y .0) (fuseFrom c y T) .block) ≡ emptied (x .1))
+      by-case : (g : Bool) → (absorbStep g x (y .0) (absorbFrom c y T) .block .keys ≡ x .1 .keys) × (emptied (absorbStep g x (y .0) (absorbFrom c y T) .block) ≡ emptied (x .1))
       by-case true = (refl, refl)
       by-case false = (refl, refl)
 
-  fused-phis : (x : CfgPoint × BlockLifting) (T : Table) → phisAt (x .0, fuseFrom c x T .block) ≡ phisAt x
+  fused-phis : (x : CfgPoint × BlockLifting) (T : Table) → phisAt (x .0, absorbFrom c x T .block) ≡ phisAt x
   fused-phis x T = let w = fused-at x T in ap₂ (λ (ks : List Value) (b : BlockLifting). ifPhis ks ((x .0, b) ∷ [])) (w .0) (w .1)
 
-  first-phis : (x : CfgPoint × BlockLifting) (T : Table) (R : Table) → Used x → phiBlocks (keepIf (c (x .0)) (x .0, fuseFrom c x T .block) R) ≡ phisAt x ++ phiBlocks R
-  first-phis x T R used = keep-phis (x .0, fuseFrom c x T .block) R (λ n. used (λ e. n (fused-at x T .0 ∙ e))) ∙ ap (λ (l : Table). l ++ phiBlocks R) (fused-phis x T)
+  first-phis : (x : CfgPoint × BlockLifting) (T : Table) (R : Table) → Used x → phiBlocks (keepIf (c (x .0)) (x .0, absorbFrom c x T .block) R) ≡ phisAt x ++ phiBlocks R
+  first-phis x T R used = keep-phis (x .0, absorbFrom c x T .block) R (λ n. used (λ e. n (fused-at x T .0 ∙ e))) ∙ ap (λ (l : Table). l ++ phiBlocks R) (fused-phis x T)
 
-  rest-phis : (x : CfgPoint × BlockLifting) (T : Table) → All Used T → phiBlocks (keep c (fuseFrom c x T .rest)) ≡ phiBlocks T
-  unfolding fuseFrom
+  rest-phis : (x : CfgPoint × BlockLifting) (T : Table) → All Used T → phiBlocks (keep c (absorbFrom c x T .rest)) ≡ phiBlocks T
+  unfolding absorbFrom
   rest-phis x [] used = refl
-  rest-phis x (y ∷ T) used = by-glue (glues c x y) refl (rest-phis y T (used .1))
+  rest-phis x (y ∷ T) used = by-glue (absorbsNext c x y) refl (rest-phis y T (used .1))
     where
-      by-glue : (g : Bool) → glues c x y ≡ g → phiBlocks (keep c (fuseFrom c y T .rest)) ≡ phiBlocks T → phiBlocks (keep c (fuseStep g x (y .0) (fuseFrom c y T) .rest)) ≡ phisAt y ++ phiBlocks T
+      by-glue : (g : Bool) → absorbsNext c x y ≡ g → phiBlocks (keep c (absorbFrom c y T .rest)) ≡ phiBlocks T → phiBlocks (keep c (absorbStep g x (y .0) (absorbFrom c y T) .rest)) ≡ phisAt y ++ phiBlocks T
       by-glue true e ih = ih ∙ ap (λ (ks : List Value). ifPhis ks ((y .0, emptied (y .1)) ∷ []) ++ phiBlocks T) (sym (glued-keys x y e))
-      by-glue false e ih = first-phis y T (keep c (fuseFrom c y T .rest)) (used .0) ∙ ap (λ (l : Table). phisAt y ++ l) ih
+      by-glue false e ih = first-phis y T (keep c (absorbFrom c y T .rest)) (used .0) ∙ ap (λ (l : Table). phisAt y ++ l) ih
 
-  all-phis : (T : Table) → All Used T → phiBlocks (keep c (fuseAll c T)) ≡ phiBlocks T
-  unfolding fuseAll
+  all-phis : (T : Table) → All Used T → phiBlocks (keep c (absorbRuns c T)) ≡ phiBlocks T
+  unfolding absorbRuns
   all-phis [] used = refl
-  all-phis (x ∷ T) used = first-phis x T (keep c (fuseFrom c x T .rest)) (used .0) ∙ ap (λ (l : Table). phisAt x ++ l) (rest-phis x T (used .1))
+  all-phis (x ∷ T) used = first-phis x T (keep c (absorbFrom c x T .rest)) (used .0) ∙ ap (λ (l : Table). phisAt x ++ l) (rest-phis x T (used .1))
 
 -- phis by their keys
 keys-at : (x : CfgPoint × BlockLifting) (ks : List Value) → x .1 .keys ≡ ks → phiKeys (ifPhis ks ((x .0, emptied (x .1)) ∷ [])) ≡ ks
@@ -141,19 +141,19 @@ module _ (F : Func) (ok : Shaped F) where
   abbrev UsedAt : CfgPoint × BlockLifting → Type 0
   UsedAt x = Used (useCount T) x
 
-  entry-used : {r : ℕ} {p : Place} → Visited F r p → UsedAt (regionEntry r, entryBlock F r p)
+  entry-used : {r : ℕ} {p : Place} → VisitedAt F r p → UsedAt (regionEntry r, entryBlock F r p)
   entry-used at-body n = absurd (n refl)
   entry-used (in-case v sf q i) n = absurd (n refl)
   entry-used (in-loop v sf q) n = absurd (n refl)
   entry-used (by-ctrl {r} {s} {c} v q i) n = used-once T (regionExit r) (regionEntry s) (leads-there F ok v (c, q, i))
 
-  in-used : {r n : ℕ} {p : Place} {ns : List ℕ} (d : Node) → nodeOf F n ≡ d → Visited F r p → Suffix (regionOf F r .nodes) (n ∷ ns) → UsedAt (nodeEntry n, inBlock F d n)
+  in-used : {r n : ℕ} {p : Place} {ns : List ℕ} (d : Node) → nodeOf F n ≡ d → VisitedAt F r p → Suffix (regionOf F r .nodes) (n ∷ ns) → UsedAt (nodeEntry n, inBlock F d n)
   in-used (block is) e v sf m = absurd (m refl)
   in-used (select k w cs ds u) e v sf m = absurd (m refl)
   in-used {n = n} {ns = ns} (loop b c is u) e v sf m = let q = before-node F ok n ns v sf refl in used-once T (q .0) (nodeEntry n) (q .1)
   in-used (exit i vs) e v sf m = absurd (m refl)
 
-  out-used : {r n : ℕ} {p : Place} {ns : List ℕ} (d : Node) (q : CfgPoint) → nodeOf F n ≡ d → Visited F r p → Suffix (regionOf F r .nodes) (n ∷ ns) → UsedAt (nodeExit n, outBlock F d n q)
+  out-used : {r n : ℕ} {p : Place} {ns : List ℕ} (d : Node) (q : CfgPoint) → nodeOf F n ≡ d → VisitedAt F r p → Suffix (regionOf F r .nodes) (n ∷ ns) → UsedAt (nodeExit n, outBlock F d n q)
   out-used (block is) q e v sf m = absurd (m refl)
   out-used {n = n} (select k w cs ds u) q e v sf m = used-once T (nodeEntry n) (nodeExit n) (merge-select F ok v sf e)
   out-used (loop b c is u) q e v sf m = absurd (m refl)

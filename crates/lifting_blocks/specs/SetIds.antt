@@ -9,7 +9,7 @@ use native.Mathlib.Omega.{arith}
 use lib.Dec.{leb·suc-suc, leb·zero, ltb}
 use lib.ListN.{getD, length}
 use borrow.Author.Tests.{ltb-true}
-use Rattle.laws.specs.Lists.{choose-no, member}
+use Rattle.general_laws.specs.Lists.{choose-no, member}
 use Rattle.lifting.specs.Ast.{Func, Value, const, dataInstOutput, eqValue, nodeOutput, regionInput}
 use Rattle.lifting.specs.Parts.{constOf}
 use Rattle.lifting.specs.References.{named}
@@ -19,7 +19,7 @@ use Rattle.lifting.specs.Walk.{walkOf}
 use Rattle.lifting.specs.Absorb.{kept}
 use Rattle.lifting.specs.Ids.{Name, eqName, idOf, label, names, newId, newValues, numberIn, opKeys, paramKeys, theFunction, value}
 use Rattle.lifting.specs.Answer.{isSet, setValues}
-use Rattle.laws.specs.Members.{In, NoDup, here, in-cases, in-left, in-map, in-member, in-split, map-in, not-member, there}
+use Rattle.general_laws.specs.Members.{In, NoDup, here, in-cases, in-left, in-map, in-member, in-split, map-in, not-member, there}
 use Rattle.lifting_runs.specs.Accepted.{Numbered}
 use Rattle.lifting_runs.specs.Ids.{number-low}
 use Rattle.lifting_runs.specs.IdsOnce

@@ -11,21 +11,21 @@ use Prim.Native.Nat.{ℕ, zero, suc, _<_}
 use native.Mathlib.Decide.{decLt, ℕ-discrete}
 use native.Mathlib.Omega.{arith}
 use lib.ListN.{getD, length}
-use Rattle.laws.specs.Lists.{choose, choose-yes}
+use Rattle.general_laws.specs.Lists.{choose, choose-yes}
 use Rattle.lifting.specs.Ast.{Decl, Func, SelectionKind, Value, select}
 use Rattle.lifting.specs.Parts.{nodeOf, regionOf}
 use Rattle.lifting.specs.Counts.{endsInExit}
 use Rattle.lifting.specs.Points.{BlockLifting, CfgPoint, Table, Terminator, blockAt, eqPoint, nodeEntry, nodeExit, points, regionEntry, regionExit, straight}
 use Rattle.lifting.specs.Walk.{Place, walkOf}
 use Rattle.lifting.specs.Absorb.{soleTarget, useCount}
-use Rattle.laws.specs.Members.{In, all-in, in-cases, in-getD, in-nil}
-use Rattle.lifting_runs.specs.Places.{Visited, whole}
+use Rattle.general_laws.specs.Members.{In, all-in, in-cases, in-getD, in-nil}
+use Rattle.lifting_runs.specs.Places.{VisitedAt, whole}
 use Rattle.lifting_runs.specs.Tour.{same-position}
 use Rattle.lifting_runs.specs.Ended.{CaseEnds, Ended, last-exit, case-ended, suffix-last}
 use Rattle.lifting_runs.specs.Terms.{TermOk}
 use Rattle.lifting_runs.specs.Shaped.{Shaped, laid, terms, visited-out, walk-once}
 use Rattle.lifting_runs.specs.EndedKept.{case-ends, count-case, count-out, last, last-leads}
-use Rattle.lifting_blocks.specs.Flat.{Status, byCount, carry, glueAt, glues, gluesTo, gone, goes, noKeys, noPair, starts, status, statusAt, statusFrom}
+use Rattle.lifting_blocks.specs.Flat.{Status, byCount, carry, absorbsHere, absorbsNext, absorbsTarget, gone, goes, noKeys, noPair, starts, status, statusAt, statusFrom}
 use Rattle.lifting_blocks.specs.FlatLaws.{glue-last, glue-next}
 use Rattle.lifting_blocks.specs.Chain.{chain-at}
 use Rattle.lifting_blocks.specs.Steps.{Step, step-entry, step-exit, step-in, step-out, walk-steps}
@@ -45,7 +45,7 @@ first-target : {p q : CfgPoint} → straight p ≡ straight q → p ≡ q
 first-target z = ap (λ (t : Terminator). firstPoint (t .targets)) z
 
 -- what has use count 0 is absorbed by none
-loose : (o : Option CfgPoint) (q : CfgPoint) (n : ℕ) (ks : List Value) → n ≡ 0 → gluesTo o q n ks ≡ false
+loose : (o : Option CfgPoint) (q : CfgPoint) (n : ℕ) (ks : List Value) → n ≡ 0 → absorbsTarget o q n ks ≡ false
 loose none q n ks e = refl
 loose (some t) q n ks e = by-case (eqPoint t q) (ℕ-discrete n 1)
   where
@@ -54,7 +54,7 @@ loose (some t) q n ks e = by-case (eqPoint t q) (ℕ-discrete n 1)
     by-case (yes z) (no u) = refl
     by-case (no z) g = refl
 
-fast : (q : CfgPoint) (n : ℕ) (ks : List Value) → n ≡ 1 → ks ≡ [] → gluesTo (some q) q n ks ≡ true
+fast : (q : CfgPoint) (n : ℕ) (ks : List Value) → n ≡ 1 → ks ≡ [] → absorbsTarget (some q) q n ks ≡ true
 fast q n ks e k = choose-yes (eqPoint q q) (choose (ℕ-discrete n 1) (noKeys ks) false) false refl ∙ choose-yes (ℕ-discrete n 1) (noKeys ks) false e ∙ ap noKeys k
 
 off-true : (s : Status) (p : CfgPoint) (n : ℕ) → s ≡ gone → status (carry s p true) n ≡ gone
@@ -76,11 +76,11 @@ module _ (F : Func) (ok : Shaped F) where
   at i = getD (walkOf F) i noPair
 
   zero-gone : (i : ℕ) → c (at i .0) ≡ 0 → statusAt (useCount (walkOf F)) (walkOf F) i ≡ gone
-  unfolding statusFrom glues
+  unfolding statusFrom absorbsNext
   zero-gone zero e = ap byCount e
   zero-gone (suc i) e = ap (λ (b : Bool). status (carry (statusAt c T i) (at i .0) b) (c (at (suc i) .0))) (by-case (decLt (suc i) (length T))) ∙ fresh-zero (statusAt c T i) (at i .0) (c (at (suc i) .0)) e
     where
-      by-case : Dec (suc i < length T) → glueAt c T i ≡ false
+      by-case : Dec (suc i < length T) → absorbsHere c T i ≡ false
       by-case (yes h) = glue-next c T i h ∙ loose (soleTarget (at i .1 .term)) (at (suc i) .0) (c (at (suc i) .0)) (at (suc i) .1 .keys) e
       by-case (no n) = glue-last c T i (omega arith)
 
@@ -104,7 +104,7 @@ module _ (F : Func) (ok : Shaped F) where
         (k, same-position noPair T (walk-once F ok) i (suc k) h (f .0) (e ∙ sym point), w .2, t)
 
     case-gone : (i : ℕ) → i < length (walkOf F) → at i .0 ≡ regionExit r → statusAt (useCount (walkOf F)) (walkOf F) i ≡ gone
-    unfolding statusFrom glues
+    unfolding statusFrom absorbsNext
     case-gone i h e = by-place (next-case i h e)
       where
         by-place : (k : ℕ) × (i ≡ suc k) × (at k .0 ≡ nodeExit l) × (at k .1 .term ≡ straight (regionExit r)) → statusAt (useCount (walkOf F)) (walkOf F) i ≡ gone
@@ -113,8 +113,8 @@ module _ (F : Func) (ok : Shaped F) where
             let below : suc k < length T = omega arith in
             let before : statusAt c T k ≡ gone = zero-gone k (ap c p ∙ count-out F ok l (last-exit F (regionOf F r .nodes) (ce .ends))) in
             let no-keys : at (suc k) .1 .keys ≡ [] = ap (λ (b : BlockLifting). b .keys) (sym (at-block (suc k) below) ∙ ap (blockAt T) here-too ∙ laid F ok .exit-at (ce .stands)) in
-            let joins : glueAt c T k ≡ true = glue-next c T k below
-            ∙ ap (λ (x : Terminator). gluesTo (soleTarget x) (at (suc k) .0) (c (at (suc k) .0)) (at (suc k) .1 .keys)) (t ∙ ap straight (sym here-too))
+            let joins : absorbsHere c T k ≡ true = glue-next c T k below
+            ∙ ap (λ (x : Terminator). absorbsTarget (soleTarget x) (at (suc k) .0) (c (at (suc k) .0)) (at (suc k) .1 .keys)) (t ∙ ap straight (sym here-too))
             ∙ fast (at (suc k) .0) (c (at (suc k) .0)) (at (suc k) .1 .keys) (ap c here-too ∙ count-case F ok r ce) no-keys in
             ap (statusAt c T) z ∙ ap (λ (b : Bool). status (carry (statusAt c T k) (at k .0) b) (c (at (suc k) .0))) joins ∙ off-true (statusAt c T k) (at k .0) (c (at (suc k) .0)) before
 
@@ -128,11 +128,11 @@ module _ (F : Func) (ok : Shaped F) where
       by-point (nodeExit n) e en = zero-gone i (ap c e ∙ count-out F ok n en)
 
   -- in the text's words: the exit of a case whose last node is an exit
-  exit-visited : (x : CfgPoint × BlockLifting) (o : Option CfgPoint) → Step F x o → (c : ℕ) → x .0 ≡ regionExit c → (p : Place) × Visited F c p
+  exit-visited : (x : CfgPoint × BlockLifting) (o : Option CfgPoint) → Step F x o → (c : ℕ) → x .0 ≡ regionExit c → (p : Place) × VisitedAt F c p
   exit-visited x o (step-entry v) c e = absurd (let z : _≡_ {A = ℕ} 0 1 = cc in omega arith)
   exit-visited x o (step-in v sf h) c e = absurd (let z : _≡_ {A = ℕ} 0 1 = cc in omega arith)
   exit-visited x o (step-out v sf) c e = absurd (let z : _≡_ {A = ℕ} 0 1 = cc in omega arith)
-  exit-visited x o (step-exit {r} {p} v a) c e = let z : r ≡ c = cc in (p, subst (λ (s : ℕ). Visited F s p) z v)
+  exit-visited x o (step-exit {r} {p} v a) c e = let z : r ≡ c = cc in (p, subst (λ (s : ℕ). VisitedAt F s p) z v)
 
   pub case-exit-gone : (n c : ℕ) {k : SelectionKind} {v : Value} {cs : List ℕ} {ds : List Decl} {u : ℕ} → nodeOf F n ≡ select k v cs ds u → In c cs → endsInExit F (regionOf F c .nodes) ≡ true
       → (i : ℕ) → i < length (walkOf F) → getD (walkOf F) i noPair .0 ≡ regionExit c → statusAt (useCount (walkOf F)) (walkOf F) i ≡ gone

@@ -5,12 +5,12 @@ use mathlib.Core.List.{List, [], _∷_, _++_}
 use Prim.Native.Nat.{ℕ, suc, _+_, _≤_}
 use native.Mathlib.Omega.{arith}
 use lib.ListN.{length, length-append}
-use Rattle.laws.specs.Lists.{choose, choose-no, choose-yes, gather}
+use Rattle.general_laws.specs.Lists.{choose, choose-no, choose-yes, gather}
 use Rattle.lifting.specs.Ast.{Func}
 use Rattle.lifting.specs.Points.{BlockLifting, CfgPoint, Table, eqPoint, points}
 use Rattle.lifting.specs.Walk.{walkOf}
 use Rattle.lifting.specs.Absorb.{countIn, firstUse, labels, one, useCount, uses}
-use Rattle.laws.specs.Members.{In, NoDup, gather-in, here, in-cases, in-nil, in-split, there}
+use Rattle.general_laws.specs.Members.{In, NoDup, gather-in, here, in-cases, in-nil, in-split, there}
 use Rattle.lifting_runs.specs.Shaped.{Shaped, walk-first, walk-once}
 use Rattle.lifting_blocks.specs.Uses.{labels-visited}
 

@@ -10,10 +10,10 @@ use Rattle.lifting.specs.Parts.{ctrlOf, nodeOf, regionOf}
 use Rattle.lifting.specs.Points.{BlockLifting, CfgPoint, Merge, Table, blockAt, eqPoint, noMerge, nodeEntry, nodeExit, plain, points, regionEntry, regionExit}
 use Rattle.lifting.specs.Walk.{Place, always, childTerm, exitTerm, inBlock, inNode, loopTerm, nextPoint, rootTerm, top, walkOf}
 use Rattle.lifting.specs.Absorb.{labels, mergeLabels, useCount}
-use Rattle.laws.specs.Members.{All, In, all-append, all-from, all-in, here, in-map}
-use Rattle.lifting_runs.specs.Places.{Suffix, Visited, in-loop, next, whole}
+use Rattle.general_laws.specs.Members.{All, In, all-append, all-from, all-in, here, in-map}
+use Rattle.lifting_runs.specs.Places.{Suffix, VisitedAt, in-loop, next, whole}
 use Rattle.lifting_runs.specs.AbsorbCount.{at-uses, in-count, two-uses}
-use Rattle.laws.specs.Tests.{find-in}
+use Rattle.general_laws.specs.Tests.{find-in}
 use Rattle.lifting_runs.specs.Tour.{in-points}
 use Rattle.lifting_runs.specs.Terms.{TermLeads}
 use Rattle.lifting_blocks.specs.Chain.{chain-all}
@@ -61,7 +61,7 @@ module _ (F : Func) (ok : Shaped F) where
   T = walkOf F
 
   -- the point before a node leads to its entry
-  pub before-node : {r : ℕ} {p : Place} {l : List ℕ} (n : ℕ) (ns : List ℕ) → Visited F r p → Suffix (regionOf F r .nodes) l → l ≡ n ∷ ns
+  pub before-node : {r : ℕ} {p : Place} {l : List ℕ} (n : ℕ) (ns : List ℕ) → VisitedAt F r p → Suffix (regionOf F r .nodes) l → l ≡ n ∷ ns
       → (q : CfgPoint) × Uses T q (nodeEntry n) × ((s : ℕ) → ¬ (q ≡ regionExit s))
   before-node {r} n ns v whole e =
       (regionEntry r, from-block (laid F ok .entry-at v) (subst (λ (k : List ℕ). In (nodeEntry n) (nextPoint r k ∷ [])) (sym e) here), λ s z. let o : _≡_ {A = ℕ} 0 1 = cc in omega arith)
@@ -70,15 +70,15 @@ module _ (F : Func) (ok : Shaped F) where
 
   -- a select's entry has its exit for a merge label
   pub merge-select : {r n : ℕ} {p : Place} {ns : List ℕ} {k : SelectionKind} {v : Value} {cs : List ℕ} {ds : List Decl} {u : ℕ}
-      → Visited F r p → Suffix (regionOf F r .nodes) (n ∷ ns) → nodeOf F n ≡ select k v cs ds u → Uses T (nodeEntry n) (nodeExit n)
+      → VisitedAt F r p → Suffix (regionOf F r .nodes) (n ∷ ns) → nodeOf F n ≡ select k v cs ds u → Uses T (nodeEntry n) (nodeExit n)
   merge-select {n = n} v sf e = from-block (laid F ok .in-at v sf ∙ ap (λ (d : Node). inBlock F d n) e) here
 
   -- a root's exit leads to its targets
-  pub leads-there : {p s : ℕ} → Visited F p top → Leads F p s → Uses T (regionExit p) (regionEntry s)
+  pub leads-there : {p s : ℕ} → VisitedAt F p top → Leads F p s → Uses T (regionExit p) (regionEntry s)
   leads-there {p} v (c, e, i) = from-block (laid F ok .exit-at v ∙ ap (λ (o : Option ControlInst). plain (rootTerm F o p)) e) (in-map regionEntry i)
 
   -- every target and merge label of a visited block is visited
-  merge-visited : {r n : ℕ} {p : Place} {ns : List ℕ} (d : Node) → nodeOf F n ≡ d → Visited F r p → Suffix (regionOf F r .nodes) (n ∷ ns) → All (λ q. In q (points T)) (mergeLabels (inBlock F d n .term .merge))
+  merge-visited : {r n : ℕ} {p : Place} {ns : List ℕ} (d : Node) → nodeOf F n ≡ d → VisitedAt F r p → Suffix (regionOf F r .nodes) (n ∷ ns) → All (λ q. In q (points T)) (mergeLabels (inBlock F d n .term .merge))
   merge-visited (block is) e v sf = tt
   merge-visited (select k w cs ds u) e v sf = (visited-out F ok v sf, tt)
   merge-visited (loop b c is u) e v sf = (visited-out F ok v sf, (visited-exit F ok (in-loop v sf e), tt))

@@ -6,15 +6,15 @@ use mathlib.Core.Option.{Option, some}
 use Prim.Native.Nat.{ℕ, zero, suc, _<_}
 use native.Mathlib.Omega.{arith}
 use lib.ListN.{getD, length}
-use Rattle.laws.specs.Lists.{choose, choose-no, find}
+use Rattle.general_laws.specs.Lists.{choose, choose-no, find}
 use Rattle.lifting.specs.Ast.{ControlInstKind, Func, Value, branch, exitInvocation, return, selectBranch, unreachable}
 use Rattle.lifting.specs.Parts.{opOf, valsOr}
 use Rattle.lifting.specs.Points.{BlockLifting, CfgPoint, Table, Terminator, blockAt, blockOr, eqPoint, regionEntry, straight}
-use Rattle.lifting.specs.Absorb.{Absorbing, absorb, firstUse, fuse, keep, keepIf, kept, soleTarget, useCount}
+use Rattle.lifting.specs.Absorb.{Absorbing, absorb, firstUse, absorbInto, keep, keepIf, kept, soleTarget, useCount}
 use Rattle.lifting.specs.Machine.{Alike, go}
 use Rattle.lifting.specs.World.{Mem, World, pick, reading, reads}
 use Rattle.lifting.specs.RegionRun.{atFirst, execute, sets}
-use Rattle.laws.specs.Members.{In}
+use Rattle.general_laws.specs.Members.{In}
 use Rattle.lifting_runs.specs.Each.{after-all, taken}
 use Rattle.lifting_runs.specs.Simulation.{Macro, MeetOut, alike-of, alike-refl, alike-trans, at-once, out-go, out-halt}
 use Rattle.lifting_runs.specs.PointRun.{PointState, doOps, edge, jump, leavePoint, pointLog, pointStart, pointStep, pointWay}
@@ -92,7 +92,7 @@ module _ (F : Func) {Val : Type 0} (W : World Val) (T : Table) where
         };
         counted = λ q. ap (λ (n : ℕ). choose (eqPoint q t) 0 n) (k .counted q) ∙ counts-after U b t q (k .tidy .unique) l u-right;
         alike = alike-trans (k .alike)
-            (absorbed-alike F W (blockAt U) (blockAt (fuse b t c U)) b t (absorbed-of U b t (k .tidy .starts) l u-right ks (k .tidy .no-phis t ks)));
+            (absorbed-alike F W (blockAt U) (blockAt (absorbInto b t c U)) b t (absorbed-of U b t (k .tidy .starts) l u-right ks (k .tidy .no-phis t ks)));
       }
 
   pub absorb-kept : Tidy T → Kept F W T (absorb T)

@@ -4,12 +4,12 @@ use mathlib.Core.List.{List, [], _∷_, _++_}
 use mathlib.Core.Option.{Option, none, some}
 use Prim.Native.Nat.{ℕ, zero, suc, _+_, _≤_}
 use native.Mathlib.Omega.{arith}
-use Rattle.laws.specs.Lists.{choose, choose-no, choose-yes, find}
+use Rattle.general_laws.specs.Lists.{choose, choose-no, choose-yes, find}
 use Rattle.lifting.specs.Ast.{ControlInstKind, Value, branch, exitInvocation, return, selectBranch, unreachable}
 use Rattle.lifting.specs.Parts.{targets}
 use Rattle.lifting.specs.Points.{BlockLifting, CfgPoint, Merge, Table, Terminator, blockAt, blockOr, eqPoint, loopMerge, noMerge, regionEntry, selectionMerge, straight}
-use Rattle.lifting.specs.Absorb.{countIn, emptied, firstUse, fuse, ifBranch, ifEmpty, ifNoMerge, ifZero, joined, labels, mergeLabels, one, refit, single, soleTarget, useCount, uses}
-use Rattle.laws.specs.Members.{In, here, there}
+use Rattle.lifting.specs.Absorb.{countIn, emptied, firstUse, absorbInto, ifBranch, ifEmpty, ifNoMerge, ifZero, joined, labels, mergeLabels, one, refit, single, soleTarget, useCount, uses}
+use Rattle.general_laws.specs.Members.{In, here, there}
 use Rattle.lifting_runs.specs.AbsorbRun.{Absorbed}
 
 none-some : {A : Type 0} {a : A} → none ≡ some a → ⊥
@@ -79,12 +79,12 @@ abbrev pub onSome : (BlockLifting → BlockLifting) → Option BlockLifting → 
 onSome f none = none
 onSome f (some d) = some (f d)
 
-pub find-fuse : (b t : CfgPoint) (c : BlockLifting) (T : Table) (q : CfgPoint) → find eqPoint q (fuse b t c T) ≡ onSome (refit b t c q) (find eqPoint q T)
+pub find-fuse : (b t : CfgPoint) (c : BlockLifting) (T : Table) (q : CfgPoint) → find eqPoint q (absorbInto b t c T) ≡ onSome (refit b t c q) (find eqPoint q T)
 find-fuse b t c [] q = refl
 find-fuse b t c (x ∷ T) q = by-case (eqPoint q (x .0)) (find-fuse b t c T q)
   where
-    by-case : (d : Dec (q ≡ x .0)) → find eqPoint q (fuse b t c T) ≡ onSome (refit b t c q) (find eqPoint q T)
-        → choose d (some (refit b t c (x .0) (x .1))) (find eqPoint q (fuse b t c T)) ≡ onSome (refit b t c q) (choose d (some (x .1)) (find eqPoint q T))
+    by-case : (d : Dec (q ≡ x .0)) → find eqPoint q (absorbInto b t c T) ≡ onSome (refit b t c q) (find eqPoint q T)
+        → choose d (some (refit b t c (x .0) (x .1))) (find eqPoint q (absorbInto b t c T)) ≡ onSome (refit b t c q) (choose d (some (x .1)) (find eqPoint q T))
     by-case (yes e) h = ap (λ (p : CfgPoint). some (refit b t c p (x .1))) (sym e)
     by-case (no n) h = h
 
@@ -105,7 +105,7 @@ refit-keys b t c p d = by-case (eqPoint p t) (eqPoint p b)
     by-case (no n) (yes e) = (refl, refl)
     by-case (no n) (no m) = (refl, refl)
 
-pub block-other : (b t : CfgPoint) (c : BlockLifting) (T : Table) (q : CfgPoint) → ¬ (q ≡ t) → ¬ (q ≡ b) → blockAt (fuse b t c T) q ≡ blockAt T q
+pub block-other : (b t : CfgPoint) (c : BlockLifting) (T : Table) (q : CfgPoint) → ¬ (q ≡ t) → ¬ (q ≡ b) → blockAt (absorbInto b t c T) q ≡ blockAt T q
 block-other b t c T q nt nb = ap blockOr (find-fuse b t c T q) ∙ by-case (find eqPoint q T)
   where
     by-case : (o : Option BlockLifting) → blockOr (onSome (refit b t c q) o) ≡ blockOr o
@@ -113,7 +113,7 @@ block-other b t c T q nt nb = ap blockOr (find-fuse b t c T q) ∙ by-case (find
     by-case (some d) = refit-other b t c q d nt nb
 
 pub block-keys : (b t : CfgPoint) (c : BlockLifting) (T : Table) (q : CfgPoint)
-    → (blockAt (fuse b t c T) q .keys ≡ blockAt T q .keys) × (blockAt (fuse b t c T) q .defaults ≡ blockAt T q .defaults)
+    → (blockAt (absorbInto b t c T) q .keys ≡ blockAt T q .keys) × (blockAt (absorbInto b t c T) q .defaults ≡ blockAt T q .defaults)
 block-keys b t c T q = let r = by-case (find eqPoint q T) in
     (ap (λ (o : Option BlockLifting). blockOr o .keys) (find-fuse b t c T q) ∙ r .0, ap (λ (o : Option BlockLifting). blockOr o .defaults) (find-fuse b t c T q) ∙ r .1)
   where
@@ -126,16 +126,16 @@ found : (o : Option BlockLifting) (t : CfgPoint) → blockOr o .term ≡ straigh
 found none t e = absurd (none-some (sym (ap (λ (x : Terminator). single (x .targets)) (sym e))))
 found (some d) t e = (d, refl)
 
-block-b : (b t : CfgPoint) (c : BlockLifting) (T : Table) → blockAt T b .term ≡ straight t → ¬ (b ≡ t) → blockAt (fuse b t c T) b ≡ joined (blockAt T b) c
+block-b : (b t : CfgPoint) (c : BlockLifting) (T : Table) → blockAt T b .term ≡ straight t → ¬ (b ≡ t) → blockAt (absorbInto b t c T) b ≡ joined (blockAt T b) c
 block-b b t c T e n = by-case (find eqPoint b T) (found (find eqPoint b T) t e) (find-fuse b t c T b)
   where
-    by-case : (o : Option BlockLifting) → (d : BlockLifting) × (o ≡ some d) → find eqPoint b (fuse b t c T) ≡ onSome (refit b t c b) o → blockAt (fuse b t c T) b ≡ joined (blockOr o) c
+    by-case : (o : Option BlockLifting) → (d : BlockLifting) × (o ≡ some d) → find eqPoint b (absorbInto b t c T) ≡ onSome (refit b t c b) o → blockAt (absorbInto b t c T) b ≡ joined (blockOr o) c
     by-case none w f = absurd (none-some (w .1))
     by-case (some d) w f = ap blockOr f ∙ refit-b b t c d n
 
 -- the key fact: a target of count 1 has its absorber as its only edge
 pub absorbed-of : (T : Table) (b t : CfgPoint) → firstUse T (regionEntry 0) ≡ 1 → blockAt T b .term ≡ straight t → useCount T t ≡ 1
-    → blockAt T t .keys ≡ [] → blockAt T t .defaults ≡ [] → Absorbed (blockAt T) (blockAt (fuse b t (blockAt T t) T)) b t
+    → blockAt T t .keys ≡ [] → blockAt T t .defaults ≡ [] → Absorbed (blockAt T) (blockAt (absorbInto b t (blockAt T t) T)) b t
 unfolding useCount
 absorbed-of T b t st e u ks ds = record { leads = e; no-keys = ks; no-defaults = ds; only = only-b; not-first = off; at-b = block-b b t (blockAt T t) T e; elsewhere = block-other b t (blockAt T t) T }
   where
@@ -166,7 +166,7 @@ gain (some d) k = k
 
 -- what the uses become
 fuse-uses : (b t : CfgPoint) (c : BlockLifting) (q : CfgPoint) → ¬ (b ≡ t) → (T : Table) → Unique T
-    → uses (fuse b t c T) q + (usesAt T b q + usesAt T t q) ≡ uses T q + gain (find eqPoint b T) (countIn q (labels (c .term)))
+    → uses (absorbInto b t c T) q + (usesAt T b q + usesAt T t q) ≡ uses T q + gain (find eqPoint b T) (countIn q (labels (c .term)))
 unfolding gain
 fuse-uses b t c q n [] u = refl
 fuse-uses b t c q n (x ∷ T) u = by-case (eqPoint b (x .0)) (eqPoint t (x .0)) (fuse-uses b t c q n T (u .1))
@@ -178,8 +178,8 @@ fuse-uses b t c q n (x ∷ T) u = by-case (eqPoint b (x .0)) (eqPoint t (x .0)) 
     X = countIn q (labels (x .1 .term))
 
     by-case : (d : Dec (b ≡ x .0)) (d-right : Dec (t ≡ x .0))
-        → uses (fuse b t c T) q + (usesAt T b q + usesAt T t q) ≡ uses T q + gain (find eqPoint b T) K
-        → countIn q (labels (refit b t c (x .0) (x .1) .term)) + uses (fuse b t c T) q
+        → uses (absorbInto b t c T) q + (usesAt T b q + usesAt T t q) ≡ uses T q + gain (find eqPoint b T) K
+        → countIn q (labels (refit b t c (x .0) (x .1) .term)) + uses (absorbInto b t c T) q
         + (countIn q (labels (blockOr (choose d (some (x .1)) (find eqPoint b T)) .term)) + countIn q (labels (blockOr (choose d-right (some (x .1)) (find eqPoint t T)) .term)))
         ≡ X + uses T q + gain (choose d (some (x .1)) (find eqPoint b T)) K
     by-case (yes e) (yes e-right) h = absurd (n (e ∙ sym e-right))
@@ -202,12 +202,12 @@ fuse-uses b t c q n (x ∷ T) u = by-case (eqPoint b (x .0)) (eqPoint t (x .0)) 
         omega arith
 
 -- a block that would absorb itself
-fuse-self : (t : CfgPoint) (c : BlockLifting) (q : CfgPoint) → (T : Table) → Unique T → uses (fuse t t c T) q + usesAt T t q ≡ uses T q
+fuse-self : (t : CfgPoint) (c : BlockLifting) (q : CfgPoint) → (T : Table) → Unique T → uses (absorbInto t t c T) q + usesAt T t q ≡ uses T q
 fuse-self t c q [] u = refl
 fuse-self t c q (x ∷ T) u = by-case (eqPoint t (x .0)) (fuse-self t c q T (u .1))
   where
-    by-case : (d : Dec (t ≡ x .0)) → uses (fuse t t c T) q + usesAt T t q ≡ uses T q
-        → countIn q (labels (refit t t c (x .0) (x .1) .term)) + uses (fuse t t c T) q + countIn q (labels (blockOr (choose d (some (x .1)) (find eqPoint t T)) .term))
+    by-case : (d : Dec (t ≡ x .0)) → uses (absorbInto t t c T) q + usesAt T t q ≡ uses T q
+        → countIn q (labels (refit t t c (x .0) (x .1) .term)) + uses (absorbInto t t c T) q + countIn q (labels (blockOr (choose d (some (x .1)) (find eqPoint t T)) .term))
         ≡ countIn q (labels (x .1 .term)) + uses T q
     by-case (yes e) h =
         let nt : find eqPoint t T ≡ none = subst (λ (p : CfgPoint). find eqPoint p T ≡ none) (sym e) (u .0) in
@@ -231,36 +231,36 @@ unfolding gain
 gain-of T b t k e = ap (λ (o : Option BlockLifting). gain o k) (found (find eqPoint b T) t e .1)
 
 -- an absorption takes away the one use of its target and no other
-pub uses-after : (T : Table) (b t q : CfgPoint) → Unique T → blockAt T b .term ≡ straight t → uses T q ≡ one q t + uses (fuse b t (blockAt T t) T) q
+pub uses-after : (T : Table) (b t q : CfgPoint) → Unique T → blockAt T b .term ≡ straight t → uses T q ≡ one q t + uses (absorbInto b t (blockAt T t) T) q
 uses-after T b t q u e = by-case (eqPoint b t)
   where
     c : BlockLifting
     c = blockAt T t
 
-    by-case : Dec (b ≡ t) → uses T q ≡ one q t + uses (fuse b t c T) q
+    by-case : Dec (b ≡ t) → uses T q ≡ one q t + uses (absorbInto b t c T) q
     by-case (yes x) =
-        let s : uses (fuse b t c T) q + usesAt T t q ≡ uses T q = subst (λ (p : CfgPoint). uses (fuse p t c T) q + usesAt T t q ≡ uses T q) (sym x) (fuse-self t c q T u) in
+        let s : uses (absorbInto b t c T) q + usesAt T t q ≡ uses T q = subst (λ (p : CfgPoint). uses (absorbInto p t c T) q + usesAt T t q ≡ uses T q) (sym x) (fuse-self t c q T u) in
         let l : usesAt T t q ≡ one q t = subst (λ (p : CfgPoint). usesAt T p q ≡ one q t) x (lead-uses T b t q e) in
         omega arith
     by-case (no n) = omega (arith, fuse-uses b t c q n T u, lead-uses T b t q e, gain-of T b t (countIn q (labels (c .term))) e)
 
-pub first-after : (b t : CfgPoint) (c : BlockLifting) (T : Table) (q : CfgPoint) → firstUse (fuse b t c T) q ≡ firstUse T q
+pub first-after : (b t : CfgPoint) (c : BlockLifting) (T : Table) (q : CfgPoint) → firstUse (absorbInto b t c T) q ≡ firstUse T q
 first-after b t c [] q = refl
 first-after b t c (x ∷ T) q = refl
 
-pub unique-after : (b t : CfgPoint) (c : BlockLifting) (T : Table) → Unique T → Unique (fuse b t c T)
+pub unique-after : (b t : CfgPoint) (c : BlockLifting) (T : Table) → Unique T → Unique (absorbInto b t c T)
 unique-after b t c [] u = tt
 unique-after b t c (x ∷ T) u = (find-fuse b t c T (x .0) ∙ ap (onSome (refit b t c (x .0))) (u .0), unique-after b t c T (u .1))
 
 pub counts-after : (T : Table) (b t q : CfgPoint) → Unique T → blockAt T b .term ≡ straight t → useCount T t ≡ 1
-    → choose (eqPoint q t) 0 (useCount T q) ≡ useCount (fuse b t (blockAt T t) T) q
+    → choose (eqPoint q t) 0 (useCount T q) ≡ useCount (absorbInto b t (blockAt T t) T) q
 unfolding useCount
 counts-after T b t q u e k = by-case (eqPoint q t)
   where
     c : BlockLifting
     c = blockAt T t
 
-    by-case : (d : Dec (q ≡ t)) → choose d 0 (useCount T q) ≡ useCount (fuse b t c T) q
+    by-case : (d : Dec (q ≡ t)) → choose d 0 (useCount T q) ≡ useCount (absorbInto b t c T) q
     by-case (yes x) =
         let o : one q t ≡ 1 = choose-yes {A = ℕ} (eqPoint q t) 1 0 x in
         let s : useCount T q ≡ 1 = subst (λ (p : CfgPoint). useCount T p ≡ 1) (sym x) k in

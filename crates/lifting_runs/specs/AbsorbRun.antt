@@ -4,7 +4,7 @@ use mathlib.Core.Logic.{_⊎_, inl, inr}
 use mathlib.Core.List.{List, [], _∷_, _++_}
 use Prim.Native.Nat.{ℕ, zero, suc}
 use lib.ListN.{getD, length}
-use Rattle.laws.specs.Lists.{find}
+use Rattle.general_laws.specs.Lists.{find}
 use Rattle.lifting.specs.Ast.{ControlInstKind, Func, Value, branch, exitInvocation, return, selectBranch, unreachable}
 use Rattle.lifting.specs.Parts.{opOf, valsOr}
 use Rattle.lifting.specs.Points.{BlockLifting, CfgPoint, Terminator, eqPoint, regionEntry, straight}
@@ -12,7 +12,7 @@ use Rattle.lifting.specs.Absorb.{joined}
 use Rattle.lifting.specs.Machine.{Alike, Out, go}
 use Rattle.lifting.specs.World.{End, Mem, World, pick, reading, reads}
 use Rattle.lifting.specs.RegionRun.{atFirst, execute, sets}
-use Rattle.laws.specs.Members.{In, here, there}
+use Rattle.general_laws.specs.Members.{In, here, there}
 use Rattle.lifting_runs.specs.Simulation.{Macro, MeetOut, alike-of, at-once, left-first, out-go, out-halt}
 use Rattle.lifting_runs.specs.PointRun.{PointState, edge, jump, leavePoint, pointLog, pointStart, pointStep, pointWay}
 use Rattle.lifting_runs.specs.Structure.{meet-reading}

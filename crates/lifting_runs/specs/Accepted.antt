@@ -7,7 +7,7 @@ use mathlib.Core.Option.{some}
 use Prim.Native.Nat.{ℕ, suc, _<_}
 use lib.ListN.{length}
 use Rattle.opcodes.specs.Table.{table}
-use Rattle.laws.specs.Lists.{within}
+use Rattle.general_laws.specs.Lists.{within}
 use Rattle.lifting.specs.Ast.{ControlInst, ControlInstKind, DataInstKind, Decl, Func, Inst, SelectionKind, Value, boolCond, branch, call, const, dataInstOutput, exit, exitInvocation, ext, inst, loop, regionInput, return, select, selectBranch, spvInst, unreachable}
 use Rattle.lifting.specs.Parts.{blockOps, childrenOf, constOf, ctrlOf, nodeOf, opOf, regionOf, valsFor}
 use Rattle.lifting.specs.Tree.{aroundItself}
@@ -15,7 +15,7 @@ use Rattle.lifting.specs.Counts.{endsInExit}
 use Rattle.lifting.specs.Points.{BlockLifting, CfgPoint, Table, edgeOf}
 use Rattle.lifting.specs.Walk.{walkOf}
 use Rattle.lifting.specs.Absorb.{kept}
-use Rattle.laws.specs.Members.{All, In, NoDup}
+use Rattle.general_laws.specs.Members.{All, In, NoDup}
 
 -- 4: an INST's opcode is one of the opcode table's
 abbrev pub FreeInst : Inst → Type 0

@@ -7,7 +7,7 @@ use Prim.Native.Nat.{ℕ, zero, suc, _<_}
 use native.Mathlib.Omega.{arith}
 use lib.ListN.{length}
 use lib.Dec.{T as Holds, eqb→eq}
-use Rattle.laws.specs.Lists.{find, gather, tabulate}
+use Rattle.general_laws.specs.Lists.{find, gather, tabulate}
 use Rattle.lifting.specs.Ast.{Func, Node, Value, const, dataInstOutput, loop, nodeOutput, regionInput}
 use Rattle.lifting.specs.Parts.{constOf, hasBody, nodeOf, opOf, outsOf, regionOf, valsOr}
 use Rattle.lifting.specs.Points.{BlockLifting, CfgPoint, Table, blockAt, blockOr, edgeOf, eqPoint}
@@ -19,17 +19,17 @@ use Rattle.lifting.specs.Machine.{Ends}
 use Rattle.lifting.specs.World.{Executed, World, stuck}
 use Rattle.lifting.specs.BlockRun.{blockLog, blockStart, blockStep, parts}
 use Rattle.lifting.specs.Runs.{AlikeRuns, TrueConstants}
-use Rattle.laws.specs.Members.{All, In, all-from, all-in, here, in-gather, in-left, in-map, in-right, there}
+use Rattle.general_laws.specs.Members.{All, In, all-from, all-in, here, in-gather, in-left, in-map, in-right, there}
 use Rattle.lifting_runs.specs.Accepted.{Accepted, Settled, a-const, a-param, a-phi, a-result}
 use Rattle.lifting_runs.specs.Stuck.{points-go-on}
-use Rattle.lifting_runs.specs.Structure.{Counted}
+use Rattle.lifting_runs.specs.Structure.{CountedStates}
 use Rattle.lifting_runs.specs.AbsorbCount.{in-labels}
 use Rattle.lifting_runs.specs.AbsorbAll.{Kept, absorb-kept, find-keep}
-use Rattle.lifting_runs.specs.Ids.{Known}
+use Rattle.lifting_runs.specs.Ids.{KnownIds}
 use Rattle.lifting_runs.specs.EmitRun.{BlockOk, KnownResult, OpOk, Sound, all-find}
 use Rattle.lifting_runs.specs.Start.{kept-listing, param-named, regions-listing}
 use Rattle.lifting_runs.specs.Tour.{find-unique}
-use Rattle.laws.specs.Tests.{find-in}
+use Rattle.general_laws.specs.Tests.{find-in}
 use Rattle.lifting_runs.specs.Each.{every-walked}
 use Rattle.lifting_runs.specs.Terms.{TermOk}
 use Rattle.lifting_runs.specs.Shaped.{Shaped, laid, leads, shaped-accepted, tidy}
@@ -54,7 +54,7 @@ module _ (F : Func) (first : ℕ) (ok : Accepted F first) (body : hasBody (F .re
   none-of [] h = refl
   none-of (x ∷ l) h = absurd (omega arith)
 
-  counted : Counted F
+  counted : CountedStates F
   counted = record {
     cases-fit = λ n e. ok .fitting .cases-count n e;
     loop-fit = λ n e h. none-of _ (ok .fitting .loop-ins n e ∙ sym (ok .fitting .loop-outs n e) ∙ ap (λ (l : List Value). length l) h);
@@ -101,7 +101,7 @@ module _ (F : Func) (first : ℕ) (ok : Accepted F first) (body : hasBody (F .re
       (λ n q. from-out n 0 (length (outsOf (nodeOf F n)))) (λ r i. tt)
 
   -- phis of the walk and results of kept blocks have names
-  known-phi : (v : Value) → NoCon v → In v (phiKeys T) → Known F first T K v
+  known-phi : (v : Value) → NoCon v → In v (phiKeys T) → KnownIds F first T K v
   unfolding NoCon names
   known-phi (const n) c h = absurd c
   known-phi (regionInput r i) c h = there (in-left _ (in-map value (in-right (paramKeys F) (in-left _ h))))
@@ -112,7 +112,7 @@ module _ (F : Func) (first : ℕ) (ok : Accepted F first) (body : hasBody (F .re
   result-in i t zero e = absurd (omega arith)
   result-in i t (suc ty) e = here
 
-  known-result : (x : CfgPoint × BlockLifting) (i t : ℕ) → opOf F i .type ≡ suc t → In i (x .1 .ops) → In x K → Known F first T K (dataInstOutput i)
+  known-result : (x : CfgPoint × BlockLifting) (i t : ℕ) → opOf F i .type ≡ suc t → In i (x .1 .ops) → In x K → KnownIds F first T K (dataInstOutput i)
   unfolding names
   known-result x i t e h g =
       there (in-left _ (in-map value (in-right (paramKeys F) (in-right (phiKeys T)
@@ -139,7 +139,7 @@ module _ (F : Func) (first : ℕ) (ok : Accepted F first) (body : hasBody (F .re
         let r = some-same (x .1) (find eqPoint (x .0) T) (subst (λ (o : Option BlockLifting). SameKeys o (find eqPoint (x .0) T)) f (shape .same (x .0))) in
         (r .0, r .1, r .2)
 
-    known-keys : (x : CfgPoint × BlockLifting) → In x K → (v : Value) → In v (x .1 .keys) → Known F first T K v
+    known-keys : (x : CfgPoint × BlockLifting) → In x K → (v : Value) → In v (x .1 .keys) → KnownIds F first T K v
     known-keys x h v i =
         let r = keys-of x h in
         let b = r .0 in
@@ -147,13 +147,13 @@ module _ (F : Func) (first : ℕ) (ok : Accepted F first) (body : hasBody (F .re
         let nc = all-find (λ (c : BlockLifting). All NoCon (c .keys)) (x .0) b T keys-plain (r .1) in
         known-phi v (all-in NoCon (b .keys) nc v iv) (in-gather (λ (y : CfgPoint × BlockLifting). y .1 .keys) (find-in eqPoint (x .0) T (r .1)) iv)
 
-    known-settled : (v : Value) → Settled F K v → Known F first T K v
+    known-settled : (v : Value) → Settled F K v → KnownIds F first T K v
     known-settled v (a-const h) = h
     known-settled v (a-param {i} h) = param-named F first T K i h
     known-settled v (a-phi x h i) = known-keys x h v i
     known-settled v (a-result {i} {t} x h j e) = known-result x i t e j h
 
-    known-all : (vs : List Value) → All (Settled F K) vs → All (Known F first T K) vs
+    known-all : (vs : List Value) → All (Settled F K) vs → All (KnownIds F first T K) vs
     known-all [] h = tt
     known-all (v ∷ vs) h = (known-settled v (h .0), known-all vs (h .1))
 
@@ -196,7 +196,7 @@ module _ (F : Func) (first : ℕ) (ok : Accepted F first) (body : hasBody (F .re
       ops-ok = ops-all x h (x .1 .ops) (λ i j. j);
       kind-free = term-of x h .free;
       ins-known = known-all (x .1 .term .ins) (ok .settles .inputs x h);
-      keys-known = all-from (Known F first T K) (x .1 .keys) (λ v i. known-keys x h v i);
+      keys-known = all-from (KnownIds F first T K) (x .1 .keys) (λ v i. known-keys x h v i);
       targets-kept = λ q i. target-kept x q h i;
       edges-known = λ q i. known-all (edgeOf K (x .1 .term) q) (ok .settles .edges x q h i);
       edges-fit = λ q e i f. edge-fit x q e h i f;

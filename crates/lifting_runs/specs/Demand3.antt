@@ -24,7 +24,7 @@ use Rattle.lifting.specs.World.{Executed, World, stuck}
 use Rattle.lifting.specs.RegionRun.{regionLog, regionStart, regionStep}
 use Rattle.lifting.specs.BlockRun.{blockLog, blockStart, blockStep, parts}
 use Rattle.lifting.specs.Runs.{AlikeRuns, TrueConstants}
-use Rattle.laws.specs.Members.{NoDup}
+use Rattle.general_laws.specs.Members.{NoDup}
 use Rattle.lifting_runs.specs.Accepted.{Accepted}
 use Rattle.lifting_runs.specs.Stuck.{regions-go-on}
 use Rattle.lifting_runs.specs.AcceptedRuns.{accepted-alike, blocks-go-on}

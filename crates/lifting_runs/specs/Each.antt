@@ -8,15 +8,15 @@ use Prim.Native.Nat.{ℕ, zero, suc}
 use native.Mathlib.Decide.{ℕ-discrete}
 use native.Mathlib.Omega.{arith}
 use lib.ListN.{length}
-use Rattle.laws.specs.Lists.{choose, find}
+use Rattle.general_laws.specs.Lists.{choose, find}
 use Rattle.lifting.specs.Ast.{Value, Func}
 use Rattle.lifting.specs.Parts.{regionOf, nodeOf, childrenOf, hasBody}
 use Rattle.lifting.specs.Order.{roots}
 use Rattle.lifting.specs.Points.{CfgPoint, regionEntry, regionExit, nodeEntry, nodeExit, eqPoint, BlockLifting, Table, points, nothingHere, plain, blockOr, blockAt}
 use Rattle.lifting.specs.Walk.{Place, top, inNode, nextPoint, entryBlock, exitBlock, inBlock, outBlock, walkKids, walkNode, walkNodes, walkRegion, walkRoots, walkOf}
-use Rattle.lifting.specs.Absorb.{useCount, soleTarget, emptied, joined, refit, fuse, Absorbing, ifNoPhis, tryTarget, absorbAt, absorbAll, absorb, keepIf, keep, kept}
-use Rattle.laws.specs.Members.{In, here, there, All, all-append, all-in}
-use Rattle.laws.specs.Tests.{find-in}
+use Rattle.lifting.specs.Absorb.{useCount, soleTarget, emptied, joined, refit, absorbInto, Absorbing, ifNoPhis, tryTarget, absorbAt, absorbAll, absorb, keepIf, keep, kept}
+use Rattle.general_laws.specs.Members.{In, here, there, All, all-append, all-in}
+use Rattle.general_laws.specs.Tests.{find-in}
 
 -- The walk makes four kinds of blocks. R is what is known of a root, for its entry.
 module _ (F : Func) (P : CfgPoint × BlockLifting → Type 0) {R : ℕ → Type 0} (entries : (r : ℕ) (p : Place) → (p ≡ top → R r) → P (regionEntry r, entryBlock F r p)) (exits : (r : ℕ) (p : Place) → P (regionExit r, exitBlock F r p))
@@ -57,7 +57,7 @@ module _ (F : Func) (P : CfgPoint × BlockLifting → Type 0) {R : ℕ → Type 
 
 -- the block at b absorbs the block at t
 abbrev pub taken : CfgPoint → CfgPoint → Absorbing → Absorbing
-taken b t s = record { table = fuse b t (blockAt (s .table) t) (s .table); counts = λ q. choose (eqPoint q t) 0 (s .counts q) }
+taken b t s = record { table = absorbInto b t (blockAt (s .table) t) (s .table); counts = λ q. choose (eqPoint q t) 0 (s .counts q) }
 
 -- What every absorption leaves as it is holds after all of them. An absorption is of a sole target of count 1 without phis.
 module _ (I : Absorbing → Type 0) (takes : (b t : CfgPoint) (s : Absorbing) → I s → soleTarget (blockAt (s .table) b .term) ≡ some t → s .counts t ≡ 1 → blockAt (s .table) t .keys ≡ [] → I (taken b t s)) where
@@ -85,12 +85,12 @@ module _ (I : Absorbing → Type 0) (takes : (b t : CfgPoint) (s : Absorbing) �
   after-all T h = after-turns (points T) (record { table = T; counts = useCount T }) h
 
 -- of the table alone
-module _ (I : Table → Type 0) (fuses : (b t : CfgPoint) (T : Table) → I T → I (fuse b t (blockAt T t) T)) where
+module _ (I : Table → Type 0) (fuses : (b t : CfgPoint) (T : Table) → I T → I (absorbInto b t (blockAt T t) T)) where
   pub after-absorb : (T : Table) → I T → I (absorb T .table)
   after-absorb T h = after-all (λ s. I (s .table)) (λ b t s i e u k. fuses b t (s .table) i) T h
 
 -- of each entry
-pub all-fuse : (P : CfgPoint × BlockLifting → Type 0) (b t : CfgPoint) (c : BlockLifting) → ((x : CfgPoint × BlockLifting) → P x → P (x .0, refit b t c (x .0) (x .1))) → (T : Table) → All P T → All P (fuse b t c T)
+pub all-fuse : (P : CfgPoint × BlockLifting → Type 0) (b t : CfgPoint) (c : BlockLifting) → ((x : CfgPoint × BlockLifting) → P x → P (x .0, refit b t c (x .0) (x .1))) → (T : Table) → All P T → All P (absorbInto b t c T)
 all-fuse P b t c f [] h = tt
 all-fuse P b t c f (x ∷ T) h = (f x (h .0), all-fuse P b t c f T (h .1))
 
@@ -106,7 +106,7 @@ each-at P bare T h p = by-case (find eqPoint p T) refl
     by-case (some b) e = all-in _ T h (p, b) (find-in eqPoint p T e)
 
 module _ (P : BlockLifting → Type 0) (bare : P (plain nothingHere)) (empties : (b : BlockLifting) → P b → P (emptied b)) (joins : (b c : BlockLifting) → P b → P c → P (joined b c)) where
-  pub each-fuse : (b t : CfgPoint) (c : BlockLifting) → P c → (T : Table) → Each P T → Each P (fuse b t c T)
+  pub each-fuse : (b t : CfgPoint) (c : BlockLifting) → P c → (T : Table) → Each P T → Each P (absorbInto b t c T)
   each-fuse b t c hc = all-fuse (λ x. P (x .1)) b t c (λ x h. by-case (x .1) h (eqPoint (x .0) t) (eqPoint (x .0) b))
     where
       by-case : {A B : Type 0} (e : BlockLifting) → P e → (d : Dec A) (g : Dec B) → P (choose d (emptied e) (choose g (joined e c) e))

@@ -10,7 +10,7 @@ use lib.Dec.{eqb}
 use lib.ListN.{getD, length, length-map}
 use Rattle.opcodes.specs.Table.{opcodeOf}
 use Rattle.opcodes.specs.declared.InstKind.the-variants.{ExtInst, FunctionCall, Branch, BranchConditional, Return, ReturnValue, Unreachable}
-use Rattle.laws.specs.Lists.{choose, choose-no, choose-yes, find, keys, tabulate}
+use Rattle.general_laws.specs.Lists.{choose, choose-no, choose-yes, find, keys, tabulate}
 use Rattle.lifting.specs.Ast.{ControlInstKind, DataInstKind, Decl, Func, Inst, SelectionKind, Value, boolCond, branch, call, const, dataInstOutput, eqValue, exitInvocation, ext, inst, return, selectBranch, spvInst, unreachable}
 use Rattle.lifting.specs.Parts.{calleeIds, ids, opOf}
 use Rattle.lifting.specs.Points.{BlockLifting, CfgPoint, Table, Terminator, blockAt, blockOr, edgeOf, eqPoint, points, regionEntry}
@@ -21,14 +21,14 @@ use Rattle.lifting.specs.Machine.{Alike, Out, go, halt}
 use Rattle.lifting.specs.World.{End, Executed, Mem, World, exited, pick, put, puts, reading, reads}
 use Rattle.lifting.specs.RegionRun.{atFirst, calleeOf, entry, setResult}
 use Rattle.lifting.specs.BlockRun.{BlockState, blockLog, blockStep, comeIn, doInsts, executeInst, goNth, goTo, headId, isKind, labelsIn, operandsIn, otherWay, pairOf, pairsFor, results, runOf, selectionOf, setId, tailIds, wayBy, wayOut}
-use Rattle.laws.specs.Members.{All, In, all-in, here, in-getD, in-map, in-right, map-in, tabulate-all, there}
-use Rattle.laws.specs.Tests.{find-in}
+use Rattle.general_laws.specs.Members.{All, In, all-in, here, in-getD, in-map, in-right, map-in, tabulate-all, there}
+use Rattle.general_laws.specs.Tests.{find-in}
 use Rattle.lifting_runs.specs.Accepted.{Enough, FreeInst, FreeKind, FreeOp, Numbered, WayFit}
 use Rattle.lifting_runs.specs.Simulation.{Macro, MeetOut, alike-of, at-once, out-go, out-halt}
 use Rattle.lifting_runs.specs.PointRun.{PointState, doOps, jump, leavePoint, pointLog, pointStart, pointStep, pointWay}
 use Rattle.lifting_runs.specs.Structure.{meet-reading, pick-lt}
 use Rattle.lifting_runs.specs.AbsorbCount.{in-count}
-use Rattle.lifting_runs.specs.Ids.{EnvRel, Known, id-label, id-positive, label-inj, put-same, puts-same, reads-same, split-labels}
+use Rattle.lifting_runs.specs.Ids.{EnvRel, KnownIds, id-label, id-positive, label-inj, put-same, puts-same, reads-same, split-labels}
 use Rattle.lifting_runs.specs.Listing.{AllFree, Free, FreeOps, blocksFor, body-phis, body-run, free-kind}
 
 getD-map-in : {A B : Type 0} (f : A → B) (l : List A) (i : ℕ) (d : A) (c : B) → i < length l → getD (map f l) i c ≡ f (getD l i d)
@@ -46,19 +46,19 @@ all-find P q d K h e = all-in _ K h (q, d) (find-in eqPoint q K e)
 module _ (F : Func) (first : ℕ) (T K : Table) where
   abbrev pub KnownResult : ℕ → ℕ → Type 0
   KnownResult zero i = Unit {0}
-  KnownResult (suc t) i = Known F first T K (dataInstOutput i)
+  KnownResult (suc t) i = KnownIds F first T K (dataInstOutput i)
 
   abbrev pub OpOk : ℕ → Type 0
-  OpOk i = FreeOp (opOf F i .kind) × All (Known F first T K) (opOf F i .operands) × KnownResult (opOf F i .type) i
+  OpOk i = FreeOp (opOf F i .kind) × All (KnownIds F first T K) (opOf F i .operands) × KnownResult (opOf F i .type) i
 
   -- what the refusals leave of one kept block
   pub record BlockOk (d : BlockLifting) : Type 0 where
     pub ops-ok : All OpOk (d .ops)
     pub kind-free : FreeKind (d .term .kind)
-    pub ins-known : All (Known F first T K) (d .term .ins)
-    pub keys-known : All (Known F first T K) (d .keys)
+    pub ins-known : All (KnownIds F first T K) (d .term .ins)
+    pub keys-known : All (KnownIds F first T K) (d .keys)
     pub targets-kept : (p : CfgPoint) → In p (d .term .targets) → (e : BlockLifting) × (find eqPoint p K ≡ some e)
-    pub edges-known : (p : CfgPoint) → In p (d .term .targets) → All (Known F first T K) (edgeOf K (d .term) p)
+    pub edges-known : (p : CfgPoint) → In p (d .term .targets) → All (KnownIds F first T K) (edgeOf K (d .term) p)
     pub edges-fit : (p : CfgPoint) (e : BlockLifting) → In p (d .term .targets) → find eqPoint p K ≡ some e → length (e .keys) ≡ length (edgeOf K (d .term) p)
     pub way-fit : WayFit (d .term .kind) (length (d .term .targets))
 
@@ -162,12 +162,12 @@ module _ (F : Func) (first : ℕ) (T K : Table) where
     is-label : (p : CfgPoint) (e : BlockLifting) → find eqPoint p K ≡ some e → In (labelOf F first T K p) (keys bs)
     is-label p e f = subst (λ (l : List ℕ). In (labelOf F first T K p) l) (sym (labels-points K)) (in-map (labelOf F first T K) (in-points (find-in eqPoint p K f)))
 
-    no-label : (v : Value) → Known F first T K v → ¬ (In (idOf F first T K v) (keys bs))
+    no-label : (v : Value) → KnownIds F first T K v → ¬ (In (idOf F first T K v) (keys bs))
     no-label v k h =
         let w = map-in (labelOf F first T K) (points K) (subst (λ (l : List ℕ). In (idOf F first T K v) l) (labels-points K) h) in
         id-label F first T K (ok .numbered) v (w .0) k (point-named (w .0) (w .1)) (w .2)
 
-    all-others : (vs : List Value) → All (Known F first T K) vs → All (λ (x : ℕ). ¬ (In x (keys bs))) (map (idOf F first T K) vs)
+    all-others : (vs : List Value) → All (KnownIds F first T K) vs → All (λ (x : ℕ). ¬ (In x (keys bs))) (map (idOf F first T K) vs)
     all-others [] h = tt
     all-others (v ∷ vs) h = (no-label v (h .0), all-others vs (h .1))
 

@@ -13,8 +13,8 @@ use Rattle.lifting.specs.Counts.{endsInExit, isExit}
 use Rattle.lifting.specs.Points.{BlockLifting, CfgPoint, nodeEntry, nodeExit, regionEntry, regionExit}
 use Rattle.lifting.specs.Walk.{Place, always, childTerm, entryBlock, exitBlock, inBlock, inNode, loopTerm, nextPoint, outBlock, rootTerm, top, walkRoots}
 use Rattle.lifting.specs.Absorb.{labels}
-use Rattle.laws.specs.Members.{All, In, here, in-cases, in-nil, map-in}
-use Rattle.lifting_runs.specs.Places.{Suffix, Visited, next, whole}
+use Rattle.general_laws.specs.Members.{All, In, here, in-cases, in-nil, map-in}
+use Rattle.lifting_runs.specs.Places.{Suffix, VisitedAt, next, whole}
 use Rattle.lifting_runs.specs.Visits.{every-visited}
 
 -- the last of some nodes
@@ -50,7 +50,7 @@ module _ (F : Func) where
   -- region c is a case, and its last node is an exit
   pub record CaseEnds (c : ℕ) : Type 0 where
     pub node : ℕ
-    pub stands : Visited F c (inNode node)
+    pub stands : VisitedAt F c (inNode node)
     pub in-select : isSelect (nodeOf F node) ≡ true
     pub child : In c (childrenOf (nodeOf F node))
     pub ends : endsInExit F (regionOf F c .nodes) ≡ true
@@ -129,5 +129,5 @@ module _ (F : Func) where
     behind-exit r top q h en = absurd (behind-root (ctrlOf F r) r q h en)
     behind-exit r (inNode n) q h en = absurd (behind-child n (nodeOf F n) (regionOf F r .outs) refl q h en)
 
-    pub walk-behind : (k : ℕ) (l : List ℕ) → ((r : ℕ) → In r l → Visited F r top) → All Behind (walkRoots F k l)
+    pub walk-behind : (k : ℕ) (l : List ℕ) → ((r : ℕ) → In r l → VisitedAt F r top) → All Behind (walkRoots F k l)
     walk-behind = every-visited F Behind (λ r p v. behind-entry r p) (λ r p v. behind-exit r p) (λ r n p ns v sf q h en. absurd (behind-in n (nodeOf F n) refl q h en)) (λ r n p ns v sf. behind-out r n ns sf)

@@ -11,16 +11,16 @@ use mathlib.Core.Option.{Option, none, some}
 use Prim.Native.Nat.{ℕ, _+_}
 use native.Mathlib.Decide.{ℕ-discrete}
 use native.Mathlib.Omega.{arith}
-use Rattle.laws.specs.Lists.{choose, choose-no, choose-yes, find}
+use Rattle.general_laws.specs.Lists.{choose, choose-no, choose-yes, find}
 use Rattle.lifting.specs.Ast.{Decl, Func, Node, SelectionKind, Value, select}
 use Rattle.lifting.specs.Parts.{childrenOf, nodeOf, regionOf}
 use Rattle.lifting.specs.Counts.{endsInExit}
 use Rattle.lifting.specs.Points.{BlockLifting, CfgPoint, Table, Terminator, blockAt, blockOr, eqPoint, nodeEntry, nodeExit, nothingHere, plain, points, regionEntry, regionExit, straight}
 use Rattle.lifting.specs.Walk.{Place, walkOf}
 use Rattle.lifting.specs.Absorb.{Absorbing, absorb, absorbAll, absorbAt, countIn, emptied, firstUse, ifNoPhis, joined, kept, labels, one, soleTarget, tryTarget, useCount, uses}
-use Rattle.laws.specs.Members.{All, In, NoDup, all-from, all-in, here, in-cases, in-nil, there}
-use Rattle.laws.specs.Tests.{find-in}
-use Rattle.lifting_runs.specs.Places.{Visited, at-body, by-ctrl, in-case, in-loop, whole}
+use Rattle.general_laws.specs.Members.{All, In, NoDup, all-from, all-in, here, in-cases, in-nil, there}
+use Rattle.general_laws.specs.Tests.{find-in}
+use Rattle.lifting_runs.specs.Places.{VisitedAt, at-body, by-ctrl, in-case, in-loop, whole}
 use Rattle.lifting_runs.specs.AbsorbCount.{block-keys, block-other, sole-straight, usesAt}
 use Rattle.lifting_runs.specs.Each.{after-all, after-turn, after-turns, all-fuse, taken}
 use Rattle.lifting_runs.specs.Tour.{in-points}
@@ -131,7 +131,7 @@ module _ (F : Func) (ok : Shaped F) where
   T = walkOf F
 
   -- a case whose last node is an exit
-  case-at : (n : ℕ) {c : ℕ} {p : Place} → isSelect (nodeOf F n) ≡ true → In c (childrenOf (nodeOf F n)) → endsInExit F (regionOf F c .nodes) ≡ true → Visited F c p → CaseEnds F c
+  case-at : (n : ℕ) {c : ℕ} {p : Place} → isSelect (nodeOf F n) ≡ true → In c (childrenOf (nodeOf F n)) → endsInExit F (regionOf F c .nodes) ≡ true → VisitedAt F c p → CaseEnds F c
   case-at n e i en at-body = absurd (ok .targets .body-root n i)
   case-at n e i en (by-ctrl {r} {s} v q j) = absurd (ok .targets .target-root r s q j n i)
   case-at n e i en (in-case {n = m} {c} v sf q j) = record { node = m; stands = in-case v sf q j; in-select = ap isSelect q; child = subst (λ (d : Node). In c (childrenOf d)) (sym q) j; ends = en }
@@ -139,7 +139,7 @@ module _ (F : Func) (ok : Shaped F) where
       let same : m ≡ n = ok .forest .child-once m n b (subst (λ (d : Node). In b (childrenOf d)) (sym q) here) i in
       absurd (false≢true (ap isSelect (sym q) ∙ ap (λ (x : ℕ). isSelect (nodeOf F x)) same ∙ e))
 
-  pub case-ends : (n : ℕ) {c : ℕ} {p : Place} {k : SelectionKind} {v : Value} {cs : List ℕ} {ds : List Decl} {u : ℕ} → nodeOf F n ≡ select k v cs ds u → In c cs → endsInExit F (regionOf F c .nodes) ≡ true → Visited F c p → CaseEnds F c
+  pub case-ends : (n : ℕ) {c : ℕ} {p : Place} {k : SelectionKind} {v : Value} {cs : List ℕ} {ds : List Decl} {u : ℕ} → nodeOf F n ≡ select k v cs ds u → In c cs → endsInExit F (regionOf F c .nodes) ≡ true → VisitedAt F c p → CaseEnds F c
   case-ends n {c} e i en w = case-at n (ap isSelect e) (subst (λ (d : Node). In c (childrenOf d)) (sym e) i) en w
 
   -- ---- the counts of the two kinds of points

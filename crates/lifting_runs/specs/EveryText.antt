@@ -10,8 +10,8 @@ use Rattle.lifting.specs.Points.{BlockLifting, CfgPoint, Table, points}
 use Rattle.lifting.specs.Walk.{walkOf}
 use Rattle.lifting.specs.Absorb.{absorb, kept}
 use Rattle.lifting.specs.Ids.{idOf, names, phiKeys}
-use Rattle.laws.specs.Members.{All, NoDup, all-in, in-nil}
-use Rattle.laws.specs.Tests.{all-gather}
+use Rattle.general_laws.specs.Members.{All, NoDup, all-in, in-nil}
+use Rattle.general_laws.specs.Tests.{all-gather}
 use Rattle.lifting_runs.specs.Accepted.{Accepted}
 use Rattle.lifting_runs.specs.Refers.{refers}
 use Rattle.lifting_runs.specs.Fits.{forest, numbered}

@@ -11,7 +11,7 @@ use lib.Dec.{leb, ltb, eqb}
 use lib.ListN.{length}
 use borrow.Author.Tests.{leb-true, ltb-true, eqb-true, not-true}
 use Rattle.lifting_runs.specs.StandsOnce.{stands-once}
-use Rattle.laws.specs.Lists.{every, within, distinct, keys}
+use Rattle.general_laws.specs.Lists.{every, within, distinct, keys}
 use Rattle.lifting.specs.Ast.{Value, SelectionKind, boolCond, spvInst, DataInstKind, inst, call, ext, Decl, Node, block, select, loop, Region, ControlInstKind, unreachable, return, branch, selectBranch, exitInvocation, ControlInst, Const, Func}
 use Rattle.lifting.specs.Parts.{constOf, regionOf, nodeOf, opOf, ctrlOf, hasBody, childrenOf, blockOps, valsFor, selectionInsts, opInsts, ctrlInsts, nodeList, opList, childList, requiredIds, ids}
 use Rattle.lifting.specs.Limits.{highestId}
@@ -22,9 +22,9 @@ use Rattle.lifting.specs.Walk.{walkOf}
 use Rattle.lifting.specs.Absorb.{kept}
 use Rattle.lifting.specs.Ids.{nextId}
 use Rattle.lifting.specs.Answer.{idsFit}
-use Rattle.laws.specs.Members.{In, there, in-left, in-map, in-getD, All, all-in, NoDup, not-within}
+use Rattle.general_laws.specs.Members.{In, there, in-left, in-map, in-getD, All, all-in, NoDup, not-within}
 use Rattle.lifting_runs.specs.Accepted.{FreeInst, FreeOp, FreeSelection, FreeKind, Enough, WayFit, OutsFit, Root, Forest, Targets, Fitting, Numbered}
-use Rattle.laws.specs.Tests.{both, every-in, all-at, every-all, find-in, every-below, in-at, distinct-once, once-at, same-place, once-by}
+use Rattle.general_laws.specs.Tests.{both, every-in, all-at, every-all, find-in, every-below, in-at, distinct-once, once-at, same-place, once-by}
 use Rattle.lifting_runs.specs.Refers.{Refers}
 
 -- 9: the first id is above 0 and above each id of the text, and no id over the highest is given.

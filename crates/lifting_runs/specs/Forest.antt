@@ -8,11 +8,11 @@ use Prim.Native.Nat.{ℕ, zero, suc, _+_, _-_, _≤_, _<_}
 use native.Mathlib.Decide.{ℕ-discrete, decLt}
 use native.Mathlib.Omega.{arith}
 use lib.ListN.{length, List·getD-eq-default}
-use Rattle.laws.specs.Lists.{within}
+use Rattle.general_laws.specs.Lists.{within}
 use Rattle.lifting.specs.Ast.{Func, Region}
 use Rattle.lifting.specs.Parts.{childrenOf, nodeOf, regionOf}
 use Rattle.lifting.specs.Tree.{around, holds, parentBelow, parentOf, someIf}
-use Rattle.laws.specs.Members.{In, here, in-cases, in-nil, in-within, not-within, there, within-no, within-yes}
+use Rattle.general_laws.specs.Members.{In, here, in-cases, in-nil, in-within, not-within, there, within-no, within-yes}
 use Rattle.lifting_runs.specs.Accepted.{Forest}
 use Rattle.lifting_runs.specs.Tour.{Tree}
 use Rattle.lifting_runs.specs.Order.{missing, missing-all, missing-less}

@@ -8,14 +8,14 @@ use Prim.Native.Nat.{ℕ, suc, _+_, _≤_, _<_}
 use native.Mathlib.Decide.{ℕ-discrete}
 use native.Mathlib.Omega.{arith}
 use lib.ListN.{length}
-use Rattle.laws.specs.Lists.{choose, choose-no, choose-yes}
+use Rattle.general_laws.specs.Lists.{choose, choose-no, choose-yes}
 use Rattle.lifting.specs.Ast.{Func, Value, const, dataInstOutput, eqValue, nodeOutput, regionInput}
 use Rattle.lifting.specs.Parts.{constOf}
 use Rattle.lifting.specs.Points.{CfgPoint, Table}
 use Rattle.lifting.specs.Ids.{Name, eqName, idOf, label, labelOf, names, newId, numberIn, value}
 use Rattle.lifting.specs.World.{andSome, put, puts, reads}
 use Rattle.lifting.specs.BlockRun.{consIf, labelsIn, othersIn}
-use Rattle.laws.specs.Members.{All, In, here, in-nil, there, within-no, within-yes}
+use Rattle.general_laws.specs.Members.{All, In, here, in-nil, there, within-no, within-yes}
 use Rattle.lifting_runs.specs.Accepted.{Numbered}
 
 -- a name's place is its own
@@ -59,11 +59,11 @@ number-inj (z ∷ l) k x y p i e = by-case (eqName x z) (eqName y z) (number-inj
 
 module _ (F : Func) (first : ℕ) (T K : Table) where
   -- a constant of the text, or a value with a new id
-  abbrev pub Known : Value → Type 0
-  Known (const n) = n < length (F .consts)
-  Known (regionInput r i) = In (value (regionInput r i)) (names F T K)
-  Known (nodeOutput n i) = In (value (nodeOutput n i)) (names F T K)
-  Known (dataInstOutput i) = In (value (dataInstOutput i)) (names F T K)
+  abbrev pub KnownIds : Value → Type 0
+  KnownIds (const n) = n < length (F .consts)
+  KnownIds (regionInput r i) = In (value (regionInput r i)) (names F T K)
+  KnownIds (nodeOutput n i) = In (value (nodeOutput n i)) (names F T K)
+  KnownIds (dataInstOutput i) = In (value (dataInstOutput i)) (names F T K)
 
   pub id-const : (n : ℕ) → idOf F first T K (const n) ≡ constOf F n .id
   unfolding idOf
@@ -72,7 +72,7 @@ module _ (F : Func) (first : ℕ) (T K : Table) where
   -- an id is the text's own, or a new one
   data View (v : Value) : Type 0 where
     old : (n : ℕ) → v ≡ const n → View v
-    new : idOf F first T K v ≡ newId F first T K (value v) → (Known v → In (value v) (names F T K)) → View v
+    new : idOf F first T K v ≡ newId F first T K (value v) → (KnownIds v → In (value v) (names F T K)) → View v
 
   view : (v : Value) → View v
   unfolding idOf
@@ -90,25 +90,25 @@ module _ (F : Func) (first : ℕ) (T K : Table) where
     unfolding newId
     new-low {x} i = number-low first x (names F T K) i
 
-    pub id-inj : (v w : Value) → Known v → Known w → idOf F first T K v ≡ idOf F first T K w → v ≡ w
+    pub id-inj : (v w : Value) → KnownIds v → KnownIds w → idOf F first T K v ≡ idOf F first T K w → v ≡ w
     id-inj v w kv kw e = by-view (view v) (view w)
       where
         by-view : View v → View w → v ≡ w
         by-view (old n p) (old k q) =
-            p ∙ ap const (ok .once n k (subst Known p kv) (subst Known q kw) (sym (id-const n) ∙ sym (ap (idOf F first T K) p) ∙ e ∙ ap (idOf F first T K) q ∙ id-const k)) ∙ sym q
-        by-view (old n p) (new q i) = absurd (omega (arith, ok .under n (subst Known p kv), ap (idOf F first T K) p, id-const n, e, q, new-low (i kw)))
-        by-view (new p i) (old k q) = absurd (omega (arith, ok .under k (subst Known q kw), ap (idOf F first T K) q, id-const k, e, p, new-low (i kv)))
+            p ∙ ap const (ok .once n k (subst KnownIds p kv) (subst KnownIds q kw) (sym (id-const n) ∙ sym (ap (idOf F first T K) p) ∙ e ∙ ap (idOf F first T K) q ∙ id-const k)) ∙ sym q
+        by-view (old n p) (new q i) = absurd (omega (arith, ok .under n (subst KnownIds p kv), ap (idOf F first T K) p, id-const n, e, q, new-low (i kw)))
+        by-view (new p i) (old k q) = absurd (omega (arith, ok .under k (subst KnownIds q kw), ap (idOf F first T K) q, id-const k, e, p, new-low (i kv)))
         by-view (new p i) (new q j) = val-inj (new-inj (i kv) (sym p ∙ e ∙ q))
           where
             val-inj : value v ≡ value w → v ≡ w
             val-inj x = cc
 
     -- no value in reach has id 0, which stands for none
-    pub id-positive : (v : Value) → Known v → 0 < idOf F first T K v
+    pub id-positive : (v : Value) → KnownIds v → 0 < idOf F first T K v
     id-positive v kv = by-view (view v)
       where
         by-view : View v → 0 < idOf F first T K v
-        by-view (old n p) = omega (arith, ok .nonzero n (subst Known p kv), ap (idOf F first T K) p, id-const n)
+        by-view (old n p) = omega (arith, ok .nonzero n (subst KnownIds p kv), ap (idOf F first T K) p, id-const n)
         by-view (new p i) = omega (arith, ok .positive, p, new-low (i kv))
 
     pub label-inj : (p q : CfgPoint) → In (label p) (names F T K) → labelOf F first T K p ≡ labelOf F first T K q → p ≡ q
@@ -118,7 +118,7 @@ module _ (F : Func) (first : ℕ) (T K : Table) where
         lab-inj : label p ≡ label q → p ≡ q
         lab-inj x = cc
 
-    pub id-label : (v : Value) (p : CfgPoint) → Known v → In (label p) (names F T K) → idOf F first T K v ≡ labelOf F first T K p → ⊥
+    pub id-label : (v : Value) (p : CfgPoint) → KnownIds v → In (label p) (names F T K) → idOf F first T K v ≡ labelOf F first T K p → ⊥
     unfolding labelOf
     id-label v p kv il e = by-view (view v)
       where
@@ -126,20 +126,20 @@ module _ (F : Func) (first : ℕ) (T K : Table) where
         apart h = let z : _≡_ {A = ℕ} 0 1 = cc in omega arith
 
         by-view : View v → ⊥
-        by-view (old n q) = omega (arith, ok .under n (subst Known q kv), ap (idOf F first T K) q, id-const n, e, new-low il)
+        by-view (old n q) = omega (arith, ok .under n (subst KnownIds q kv), ap (idOf F first T K) q, id-const n, e, new-low il)
         by-view (new q i) = apart (new-inj (i kv) (sym q ∙ e))
 
     -- reading and setting by key and by id
     module _ {Val : Type 0} where
       abbrev pub EnvRel : (Value → Option Val) → (ℕ → Option Val) → Type 0
-      EnvRel e f = (v : Value) → Known v → e v ≡ f (idOf F first T K v)
+      EnvRel e f = (v : Value) → KnownIds v → e v ≡ f (idOf F first T K v)
 
-      pub reads-same : (e : Value → Option Val) (f : ℕ → Option Val) → EnvRel e f → (vs : List Value) → All Known vs → reads e vs ≡ reads f (map (idOf F first T K) vs)
+      pub reads-same : (e : Value → Option Val) (f : ℕ → Option Val) → EnvRel e f → (vs : List Value) → All KnownIds vs → reads e vs ≡ reads f (map (idOf F first T K) vs)
       reads-same e f r [] h = refl
       reads-same e f r (v ∷ vs) h =
           ap (λ (o : Option Val). andSome o (reads e vs)) (r v (h .0)) ∙ ap (λ (o : Option (List Val)). andSome (f (idOf F first T K v)) o) (reads-same e f r vs (h .1))
 
-      pub put-same : (e : Value → Option Val) (f : ℕ → Option Val) → EnvRel e f → (v : Value) → Known v → (x : Val)
+      pub put-same : (e : Value → Option Val) (f : ℕ → Option Val) → EnvRel e f → (v : Value) → KnownIds v → (x : Val)
           → EnvRel (put eqValue e v x) (put ℕ-discrete f (idOf F first T K v) x)
       put-same e f r v k x w kw = by-case (eqValue w v)
         where
@@ -147,7 +147,7 @@ module _ (F : Func) (first : ℕ) (T K : Table) where
           by-case (yes p) = sym (choose-yes (ℕ-discrete (idOf F first T K w) (idOf F first T K v)) (some x) (f (idOf F first T K w)) (ap (idOf F first T K) p))
           by-case (no n) = r w kw ∙ sym (choose-no (ℕ-discrete (idOf F first T K w) (idOf F first T K v)) (some x) (f (idOf F first T K w)) (λ q. n (id-inj w v kw k q)))
 
-      pub puts-same : (ks : List Value) (xs : List Val) (e : Value → Option Val) (f : ℕ → Option Val) → EnvRel e f → All Known ks
+      pub puts-same : (ks : List Value) (xs : List Val) (e : Value → Option Val) (f : ℕ → Option Val) → EnvRel e f → All KnownIds ks
           → EnvRel (puts eqValue e ks xs) (puts ℕ-discrete f (map (idOf F first T K) ks) xs)
       puts-same [] xs e f r h = r
       puts-same (k ∷ ks) [] e f r h = r

@@ -7,14 +7,14 @@ use Prim.Native.Nat.{ℕ, zero, suc, _+_, _≤_, _<_}
 use native.Mathlib.Decide.{ℕ-discrete}
 use native.Mathlib.Omega.{arith}
 use lib.ListN.{length, getD}
-use Rattle.laws.specs.Lists.{choose, choose-no, choose-yes, find, gather, tabulate, times}
+use Rattle.general_laws.specs.Lists.{choose, choose-no, choose-yes, find, gather, tabulate, times}
 use Rattle.lifting.specs.Ast.{Func, Node, Value, block, dataInstOutput, exit, loop, nodeOutput, regionInput, select}
 use Rattle.lifting.specs.Parts.{blockOps, childrenOf, nodeOf, opOf, outsOf, regionOf}
 use Rattle.lifting.specs.Points.{BlockLifting, CfgPoint, Table, blockAt, blockOr, eqPoint, nodeEntry, nodeExit, points, regionEntry}
 use Rattle.lifting.specs.Walk.{Place, entryBlock, inBlock, inNode, outBlock, top, walkRoots}
-use Rattle.lifting.specs.Absorb.{absorb, emptied, fuse, joined, keep, keepIf, kept, refit}
+use Rattle.lifting.specs.Absorb.{absorb, emptied, absorbInto, joined, keep, keepIf, kept, refit}
 use Rattle.lifting.specs.Ids.{Name, eqName, label, names, newValues, numberIn, opKeys, paramKeys, phiKeys, resultOf, theFunction, value}
-use Rattle.laws.specs.Members.{All, In, NoDup, all-right, gather-in, here, in-cases, in-getD, in-nil, in-split, map-in, nodup-append, nodup-map, nodup-tabulate, nodup-times, tabulate-in, there, times-append, times-nodup}
+use Rattle.general_laws.specs.Members.{All, In, NoDup, all-right, gather-in, here, in-cases, in-getD, in-nil, in-split, map-in, nodup-append, nodup-map, nodup-tabulate, nodup-times, tabulate-in, there, times-append, times-nodup}
 use Rattle.lifting_runs.specs.Accepted.{Forest, Root}
 use Rattle.lifting_runs.specs.AbsorbCount.{Unique, refit-b, refit-other, refit-t, unique-after}
 use Rattle.lifting_runs.specs.Tour.{Tree, unique-of}
@@ -58,7 +58,7 @@ gain-low (some d) k = omega arith
 absent-ops : (T : Table) (p : CfgPoint) (i : ℕ) → find eqPoint p T ≡ none → timesAt T p i ≡ 0
 absent-ops T p i h = ap (λ (o : Option BlockLifting). times ℕ-discrete i (blockOr o .ops)) h
 
-ops-fuse : (b t : CfgPoint) (c : BlockLifting) (i : ℕ) → ¬ (b ≡ t) → (T : Table) → Unique T → times ℕ-discrete i (opsOf (fuse b t c T)) + timesAt T t i ≡ times ℕ-discrete i (opsOf T) + gain (find eqPoint b T) (times ℕ-discrete i (c .ops))
+ops-fuse : (b t : CfgPoint) (c : BlockLifting) (i : ℕ) → ¬ (b ≡ t) → (T : Table) → Unique T → times ℕ-discrete i (opsOf (absorbInto b t c T)) + timesAt T t i ≡ times ℕ-discrete i (opsOf T) + gain (find eqPoint b T) (times ℕ-discrete i (c .ops))
 unfolding gain
 ops-fuse b t c i n [] u = refl
 ops-fuse b t c i n (x ∷ T) u = by-case (eqPoint b (x .0)) (eqPoint t (x .0)) (ops-fuse b t c i n T (u .1))
@@ -72,44 +72,44 @@ ops-fuse b t c i n (x ∷ T) u = by-case (eqPoint b (x .0)) (eqPoint t (x .0)) (
     R : BlockLifting
     R = refit b t c (x .0) (x .1)
 
-    by-case : (d : Dec (b ≡ x .0)) (d-right : Dec (t ≡ x .0)) → times ℕ-discrete i (opsOf (fuse b t c T)) + timesAt T t i ≡ times ℕ-discrete i (opsOf T) + gain (find eqPoint b T) K
-        → times ℕ-discrete i (R .ops ++ opsOf (fuse b t c T)) + times ℕ-discrete i (blockOr (choose d-right (some (x .1)) (find eqPoint t T)) .ops)
+    by-case : (d : Dec (b ≡ x .0)) (d-right : Dec (t ≡ x .0)) → times ℕ-discrete i (opsOf (absorbInto b t c T)) + timesAt T t i ≡ times ℕ-discrete i (opsOf T) + gain (find eqPoint b T) K
+        → times ℕ-discrete i (R .ops ++ opsOf (absorbInto b t c T)) + times ℕ-discrete i (blockOr (choose d-right (some (x .1)) (find eqPoint t T)) .ops)
         ≡ times ℕ-discrete i (x .1 .ops ++ opsOf T) + gain (choose d (some (x .1)) (find eqPoint b T)) K
     by-case (yes e) (yes e-right) h = absurd (n (e ∙ sym e-right))
     by-case (yes e) (no n-right) h =
         let nb : find eqPoint b T ≡ none = subst (λ (p : CfgPoint). find eqPoint p T ≡ none) (sym e) (u .0) in
         let r : times ℕ-discrete i (R .ops) ≡ X + K = ap (λ (d : BlockLifting). times ℕ-discrete i (d .ops)) (subst (λ (p : CfgPoint). refit b t c p (x .1) ≡ joined (x .1) c) e (refit-b b t c (x .1) n)) ∙ times-append i (x .1 .ops) (c .ops) in
         let g : gain (find eqPoint b T) K ≡ 0 = ap (λ (o : Option BlockLifting). gain o K) nb in
-        omega (arith, times-append i (R .ops) (opsOf (fuse b t c T)), times-append i (x .1 .ops) (opsOf T))
+        omega (arith, times-append i (R .ops) (opsOf (absorbInto b t c T)), times-append i (x .1 .ops) (opsOf T))
     by-case (no n-right) (yes e) h =
         let nt : find eqPoint t T ≡ none = subst (λ (p : CfgPoint). find eqPoint p T ≡ none) (sym e) (u .0) in
         let r : times ℕ-discrete i (R .ops) ≡ 0 = ap (λ (d : BlockLifting). times ℕ-discrete i (d .ops)) (subst (λ (p : CfgPoint). refit b t c p (x .1) ≡ emptied (x .1)) e (refit-t b t c (x .1))) in
         let a = absent-ops T t i nt in
-        omega (arith, times-append i (R .ops) (opsOf (fuse b t c T)), times-append i (x .1 .ops) (opsOf T))
+        omega (arith, times-append i (R .ops) (opsOf (absorbInto b t c T)), times-append i (x .1 .ops) (opsOf T))
     by-case (no n-right) (no n-last) h =
         let r : times ℕ-discrete i (R .ops) ≡ X = ap (λ (d : BlockLifting). times ℕ-discrete i (d .ops)) (refit-other b t c (x .0) (x .1) (λ z. n-last (sym z)) (λ z. n-right (sym z))) in
-        omega (arith, times-append i (R .ops) (opsOf (fuse b t c T)), times-append i (x .1 .ops) (opsOf T))
+        omega (arith, times-append i (R .ops) (opsOf (absorbInto b t c T)), times-append i (x .1 .ops) (opsOf T))
 
-ops-self : (t : CfgPoint) (c : BlockLifting) (i : ℕ) → (T : Table) → times ℕ-discrete i (opsOf (fuse t t c T)) ≤ times ℕ-discrete i (opsOf T)
+ops-self : (t : CfgPoint) (c : BlockLifting) (i : ℕ) → (T : Table) → times ℕ-discrete i (opsOf (absorbInto t t c T)) ≤ times ℕ-discrete i (opsOf T)
 ops-self t c i [] = omega arith
 ops-self t c i (x ∷ T) = by-case (eqPoint t (x .0)) (ops-self t c i T)
   where
     R : BlockLifting
     R = refit t t c (x .0) (x .1)
 
-    by-case : Dec (t ≡ x .0) → times ℕ-discrete i (opsOf (fuse t t c T)) ≤ times ℕ-discrete i (opsOf T) → times ℕ-discrete i (R .ops ++ opsOf (fuse t t c T)) ≤ times ℕ-discrete i (x .1 .ops ++ opsOf T)
+    by-case : Dec (t ≡ x .0) → times ℕ-discrete i (opsOf (absorbInto t t c T)) ≤ times ℕ-discrete i (opsOf T) → times ℕ-discrete i (R .ops ++ opsOf (absorbInto t t c T)) ≤ times ℕ-discrete i (x .1 .ops ++ opsOf T)
     by-case (yes e) h =
         let r : times ℕ-discrete i (R .ops) ≡ 0 = ap (λ (d : BlockLifting). times ℕ-discrete i (d .ops)) (subst (λ (p : CfgPoint). refit t t c p (x .1) ≡ emptied (x .1)) e (refit-t t t c (x .1))) in
-        omega (arith, times-append i (R .ops) (opsOf (fuse t t c T)), times-append i (x .1 .ops) (opsOf T))
+        omega (arith, times-append i (R .ops) (opsOf (absorbInto t t c T)), times-append i (x .1 .ops) (opsOf T))
     by-case (no n) h =
         let r : times ℕ-discrete i (R .ops) ≡ times ℕ-discrete i (x .1 .ops) = ap (λ (d : BlockLifting). times ℕ-discrete i (d .ops)) (refit-other t t c (x .0) (x .1) (λ z. n (sym z)) (λ z. n (sym z))) in
-        omega (arith, times-append i (R .ops) (opsOf (fuse t t c T)), times-append i (x .1 .ops) (opsOf T))
+        omega (arith, times-append i (R .ops) (opsOf (absorbInto t t c T)), times-append i (x .1 .ops) (opsOf T))
 
-ops-after : (b t : CfgPoint) (i : ℕ) (T : Table) → Unique T → times ℕ-discrete i (opsOf (fuse b t (blockAt T t) T)) ≤ times ℕ-discrete i (opsOf T)
+ops-after : (b t : CfgPoint) (i : ℕ) (T : Table) → Unique T → times ℕ-discrete i (opsOf (absorbInto b t (blockAt T t) T)) ≤ times ℕ-discrete i (opsOf T)
 ops-after b t i T u = by-case (eqPoint b t)
   where
-    by-case : Dec (b ≡ t) → times ℕ-discrete i (opsOf (fuse b t (blockAt T t) T)) ≤ times ℕ-discrete i (opsOf T)
-    by-case (yes e) = subst (λ (p : CfgPoint). times ℕ-discrete i (opsOf (fuse p t (blockAt T t) T)) ≤ times ℕ-discrete i (opsOf T)) (sym e) (ops-self t (blockAt T t) i T)
+    by-case : Dec (b ≡ t) → times ℕ-discrete i (opsOf (absorbInto b t (blockAt T t) T)) ≤ times ℕ-discrete i (opsOf T)
+    by-case (yes e) = subst (λ (p : CfgPoint). times ℕ-discrete i (opsOf (absorbInto p t (blockAt T t) T)) ≤ times ℕ-discrete i (opsOf T)) (sym e) (ops-self t (blockAt T t) i T)
     by-case (no n) = omega (arith, ops-fuse b t (blockAt T t) i n T u, gain-low (find eqPoint b T) (times ℕ-discrete i (blockAt T t .ops)))
 
 -- through all absorptions and the drop
@@ -318,7 +318,7 @@ module _ (F : Func) (depth : ℕ) (tr : Tree F depth) (root0 : Root F 0) where
           (λ v a b. elim (in-split (phiKeys T) (opKeys F (kept T)) b) [ inl k ↦ param-phi v a k | inr r ↦ param-result v a r ])
 
       -- the kept points
-      fuse-points : (b t : CfgPoint) (c : BlockLifting) (U : Table) → points (fuse b t c U) ≡ points U
+      fuse-points : (b t : CfgPoint) (c : BlockLifting) (U : Table) → points (absorbInto b t c U) ≡ points U
       fuse-points b t c [] = refl
       fuse-points b t c (x ∷ U) = ap (λ (l : List CfgPoint). x .0 ∷ l) (fuse-points b t c U)
 

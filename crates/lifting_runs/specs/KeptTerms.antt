@@ -5,10 +5,10 @@ use mathlib.Core.List.{[], _∷_}
 use mathlib.Core.Option.{Option, none, some}
 use Prim.Native.Nat.{ℕ, zero, suc, _≤_, _<_}
 use native.Mathlib.Omega.{arith}
-use Rattle.laws.specs.Lists.{choose, find}
+use Rattle.general_laws.specs.Lists.{choose, find}
 use Rattle.lifting.specs.Points.{BlockLifting, CfgPoint, Table, blockAt, eqPoint}
-use Rattle.lifting.specs.Absorb.{absorb, countIn, fuse, keep, keepIf, labels, refit, uses}
-use Rattle.laws.specs.Members.{All, In, here, in-cases, in-nil, there}
+use Rattle.lifting.specs.Absorb.{absorb, countIn, absorbInto, keep, keepIf, labels, refit, uses}
+use Rattle.general_laws.specs.Members.{All, In, here, in-cases, in-nil, there}
 use Rattle.lifting_runs.specs.AbsorbCount.{find-fuse, onSome, refit-keys}
 use Rattle.lifting_runs.specs.Each.{after-absorb, each-absorbed}
 use Rattle.lifting_runs.specs.Terms.{TermLeads, nothing-ok, ok-leads}
@@ -54,8 +54,8 @@ module _ (T : Table) where
   abbrev Same : Table → Type 0
   Same U = (q : CfgPoint) → SameKeys (find eqPoint q U) (find eqPoint q T)
 
-  fuse-same : (b t : CfgPoint) (U : Table) → Same U → Same (fuse b t (blockAt U t) U)
-  fuse-same b t U s q = keys-trans (find eqPoint q (fuse b t (blockAt U t) U)) (find eqPoint q U) (find eqPoint q T)
+  fuse-same : (b t : CfgPoint) (U : Table) → Same U → Same (absorbInto b t (blockAt U t) U)
+  fuse-same b t U s q = keys-trans (find eqPoint q (absorbInto b t (blockAt U t) U)) (find eqPoint q U) (find eqPoint q T)
       (subst (λ (o : Option BlockLifting). SameKeys o (find eqPoint q U)) (sym (find-fuse b t (blockAt U t) U q)) (refit-same b t (blockAt U t) q (find eqPoint q U))) (s q)
 
   pub absorb-shape : All (λ (x : CfgPoint × BlockLifting). TermLeads T (x .1 .term)) T → Shape T (absorb T .table)

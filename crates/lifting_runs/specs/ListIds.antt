@@ -7,15 +7,15 @@ use Prim.Native.Nat.{ℕ, zero, suc, _+_, _≤_, _<_}
 use native.Mathlib.Decide.{ℕ-discrete}
 use native.Mathlib.Omega.{arith}
 use lib.ListN.{length}
-use Rattle.laws.specs.Lists.{choose, choose-no, choose-yes, gather, tabulate, times}
+use Rattle.general_laws.specs.Lists.{choose, choose-no, choose-yes, gather, tabulate, times}
 use Rattle.lifting.specs.Ast.{Decl, Func, Value, regionInput}
 use Rattle.lifting.specs.Parts.{opOf}
 use Rattle.lifting.specs.Points.{BlockLifting, CfgPoint, Merge, Table, loopMerge, noMerge, points, selectionMerge}
 use Rattle.lifting.specs.Ids.{Name, eqName, idOf, label, labelOf, names, newId, newValues, nextId, numberIn, opKeys, paramKeys, phiKeys, resultOf, theFunction, value}
 use Rattle.lifting.specs.Instructions.{Instruction, blockInsts, bodyInsts, endInst, functionInst, instructions, labelInst, mergeInsts, opInst, paramInsts, phiInsts, resultId, termInst}
 use Rattle.lifting.specs.BlockRun.{results}
-use Rattle.laws.specs.Members.{All, In, NoDup, all-append, all-in, here, in-tabulate, in-times, nodup-tabulate, nodup-times, tabulate-in, there, times-append, times-in, times-nodup}
-use Rattle.laws.specs.Tests.{all-gather, all-tabulate}
+use Rattle.general_laws.specs.Members.{All, In, NoDup, all-append, all-in, here, in-tabulate, in-times, nodup-tabulate, nodup-times, tabulate-in, there, times-append, times-in, times-nodup}
+use Rattle.general_laws.specs.Tests.{all-gather, all-tabulate}
 use Rattle.lifting_runs.specs.EmitRun.{Sound, results-phis}
 
 -- the ids that a list's instructions give, in the list's order: their results that are not 0, which stands for none

@@ -12,8 +12,8 @@ use Rattle.lifting.specs.Absorb.{countIn}
 use Rattle.lifting.specs.Ids.{idOf, labelOf}
 use Rattle.lifting.specs.Instructions.{Instruction, bodyInsts, ifUsed, mergeInsts, opInst, pairs, phiInsts, termInst}
 use Rattle.lifting.specs.BlockRun.{pairOf, phisOf}
-use Rattle.laws.specs.Members.{In, NoDup, all-in, in-map, in-right, in-split, map-in}
-use Rattle.lifting_runs.specs.Ids.{Known, id-label, label-inj}
+use Rattle.general_laws.specs.Members.{In, NoDup, all-in, in-map, in-right, in-split, map-in}
+use Rattle.lifting_runs.specs.Ids.{KnownIds, id-label, label-inj}
 use Rattle.lifting_runs.specs.Listing.{blocksFor, body-phis}
 use Rattle.lifting_runs.specs.EmitRun.{BlockOk, Sound, free-of, point-named}
 use Rattle.lifting_runs.specs.Tour.{find-unique, in-points, unique-of}
@@ -34,12 +34,12 @@ abbrev pub Paired : List ℕ → Type 0
 Paired xs = length xs ≡ length (pairLabels xs) + length (pairLabels xs)
 
 -- block k has an edge to block l: its way out names l
-abbrev pub Edge : List (ℕ × List Instruction) → ℕ → ℕ → Type 0
-Edge bs k l = (body : List Instruction) × In (k, body) bs × In l (wayIds body)
+abbrev pub ListEdge : List (ℕ × List Instruction) → ℕ → ℕ → Type 0
+ListEdge bs k l = (body : List Instruction) × In (k, body) bs × In l (wayIds body)
 
 module _ (F : Func) (first : ℕ) (T K : Table) where
   -- v is the id of value j of the edge that leads from the kept block with label k to the one with label l
-  pub record Moves (k l j v : ℕ) : Type 0 where
+  pub record MovesAlong (k l j v : ℕ) : Type 0 where
     pub from : CfgPoint × BlockLifting
     pub to : CfgPoint
     pub from-kept : In from K
@@ -54,9 +54,9 @@ module _ (F : Func) (first : ℕ) (T K : Table) where
   pub record PhiPairs (bs : List (ℕ × List Instruction)) (l j : ℕ) (xs : List ℕ) : Type 0 where
     pub paired : Paired xs
     pub once : NoDup (pairLabels xs)
-    pub has-edge : (k : ℕ) → In k (pairLabels xs) → Edge bs k l
-    pub has-pair : (k : ℕ) → Edge bs k l → In k (pairLabels xs)
-    pub holds-value : (k : ℕ) → Edge bs k l → Moves k l j (pairOf k xs)
+    pub has-edge : (k : ℕ) → In k (pairLabels xs) → ListEdge bs k l
+    pub has-pair : (k : ℕ) → ListEdge bs k l → In k (pairLabels xs)
+    pub holds-value : (k : ℕ) → ListEdge bs k l → MovesAlong k l j (pairOf k xs)
 
   -- what stands in a block of the list
   way-last : (l : List Instruction) (t : Instruction) → wayIds (l ++ (t ∷ [])) ≡ t .ids
@@ -114,18 +114,18 @@ module _ (F : Func) (first : ℕ) (T K : Table) where
     target-of : (x : CfgPoint × BlockLifting) → In x K → (q : CfgPoint) → In q (points K) → In (labelOf F first T K q) (wayIds (blockOf x .1)) → In q (x .1 .term .targets)
     target-of x i q k h = elim (in-split (map (idOf F first T K) (x .1 .term .ins)) _ (subst (In (labelOf F first T K q)) (body-way (x .0) (x .1)) h)) [
       | inl a ↦ (let w = map-in (idOf F first T K) (x .1 .term .ins) a in
-          absurd (id-label F first T K (ok .numbered) (w .0) q (all-in (Known F first T K) (x .1 .term .ins) (block-ok x i .ins-known) (w .0) (w .1)) (point-named F first T K q k) (sym (w .2))))
+          absurd (id-label F first T K (ok .numbered) (w .0) q (all-in (KnownIds F first T K) (x .1 .term .ins) (block-ok x i .ins-known) (w .0) (w .1)) (point-named F first T K q k) (sym (w .2))))
       | inr b ↦ (let w = map-in (labelOf F first T K) (x .1 .term .targets) b in
           subst (λ (p : CfgPoint). In p (x .1 .term .targets)) (sym (label-inj F first T K (ok .numbered) q (w .0) (point-named F first T K q k) (w .2))) (w .1))
     ]
 
     -- an edge of the list is one between kept blocks, and back
-    edge-from : (q : CfgPoint) → In q (points K) → (k : ℕ) → Edge bs k (labelOf F first T K q) → (x : CfgPoint × BlockLifting) × In x K × (k ≡ labelOf F first T K (x .0)) × In q (x .1 .term .targets)
+    edge-from : (q : CfgPoint) → In q (points K) → (k : ℕ) → ListEdge bs k (labelOf F first T K q) → (x : CfgPoint × BlockLifting) × In x K × (k ≡ labelOf F first T K (x .0)) × In q (x .1 .term .targets)
     edge-from q h k (body, i, j) =
         let w = kept-block i in
         (w .0, w .1, ap (λ (z : ℕ × List Instruction). z .0) (w .2), target-of (w .0) (w .1) q h (subst (λ (z : ℕ × List Instruction). In (labelOf F first T K q) (wayIds (z .1))) (w .2) j))
 
-    edge-to : (q : CfgPoint) (x : CfgPoint × BlockLifting) → In x K → In q (x .1 .term .targets) → Edge bs (labelOf F first T K (x .0)) (labelOf F first T K q)
+    edge-to : (q : CfgPoint) (x : CfgPoint × BlockLifting) → In x K → In q (x .1 .term .targets) → ListEdge bs (labelOf F first T K (x .0)) (labelOf F first T K q)
     edge-to q x i t = (
       blockOf x .1,
       subst (In (blockOf x)) (sym (blocks-are K)) (in-map blockOf i),
@@ -143,7 +143,7 @@ module _ (F : Func) (first : ℕ) (T K : Table) where
         subst (PhiPairs bs (labelOf F first T K q) j) (sym e) (record {
           paired = all-paired K q j;
           once = p .once;
-          has-edge = λ k m. let w = p .has-edge k m in subst (λ (n : ℕ). Edge bs n (labelOf F first T K q)) (sym (w .2)) (edge-to q (w .0) (w .1) (w .3));
+          has-edge = λ k m. let w = p .has-edge k m in subst (λ (n : ℕ). ListEdge bs n (labelOf F first T K q)) (sym (w .2)) (edge-to q (w .0) (w .1) (w .3));
           has-pair = λ k d. let w = edge-from q here-is k d in subst (λ (n : ℕ). In n (pairLabels (pairs F first T K K q j))) (sym (w .2)) (p .has-pair (w .0) (w .1) (w .3));
           holds-value = λ k d. let w = edge-from q here-is k d in record {
             from = w .0;

@@ -11,14 +11,14 @@ use borrow.Author.Tests.{eqb-true}
 use Rattle.opcodes.specs.Table.{table, opcodeOf}
 use Rattle.opcodes.specs.declared.InstKind.{InstKind}
 use Rattle.opcodes.specs.declared.InstKind.the-variants.{ExtInst, ConstantTrue, Function, FunctionParameter, FunctionEnd, FunctionCall, Phi, LoopMerge, SelectionMerge, Label, Branch, BranchConditional, Return, ReturnValue, Unreachable}
-use Rattle.laws.specs.Lists.{tabulate, within}
+use Rattle.general_laws.specs.Lists.{tabulate, within}
 use Rattle.lifting.specs.Ast.{ControlInstKind, DataInstKind, Decl, Func, Value, boolCond, branch, call, exitInvocation, ext, inst, regionInput, return, selectBranch, spvInst, unreachable}
 use Rattle.lifting.specs.Parts.{opOf}
 use Rattle.lifting.specs.Points.{BlockLifting, CfgPoint, Merge, Table, Terminator, loopMerge, noMerge, selectionMerge}
 use Rattle.lifting.specs.Ids.{idOf, labelOf}
 use Rattle.lifting.specs.Instructions.{Instruction, blockInsts, bodyInsts, endInst, functionInst, instructions, labelInst, mergeInsts, opInst, opOpcode, paramInst, paramInsts, phiInst, phiInsts, termInst, termOpcode}
 use Rattle.lifting.specs.BlockRun.{Parts, addPart, consIf, isKind, isMerge, paramsIn, parts, phisOf, runOf}
-use Rattle.laws.specs.Members.{All, all-append, all-left, all-right, all-from, all-in}
+use Rattle.general_laws.specs.Members.{All, all-append, all-left, all-right, all-from, all-in}
 use Rattle.lifting_runs.specs.Accepted.{FreeKind, FreeOp}
 use Rattle.lifting_runs.specs.Simulation.{rest}
 

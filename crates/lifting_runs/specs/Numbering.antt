@@ -10,7 +10,7 @@ use Rattle.lifting.specs.Points.{Table, points}
 use Rattle.lifting.specs.Walk.{walkOf, walkRoots}
 use Rattle.lifting.specs.Absorb.{kept}
 use Rattle.lifting.specs.Ids.{names}
-use Rattle.laws.specs.Members.{NoDup}
+use Rattle.general_laws.specs.Members.{NoDup}
 use Rattle.lifting_runs.specs.Accepted.{Accepted}
 use Rattle.lifting_runs.specs.TourOnce.{roots-nodup}
 use Rattle.lifting_runs.specs.Order.{roots-ok}

@@ -8,15 +8,15 @@ use Prim.Native.Nat.{ℕ, zero, suc, _+_, _≤_, _<_}
 use native.Mathlib.Decide.{ℕ-discrete}
 use native.Mathlib.Omega.{arith}
 use lib.ListN.{length}
-use Rattle.laws.specs.Lists.{choose, within}
+use Rattle.general_laws.specs.Lists.{choose, within}
 use Rattle.lifting.specs.Ast.{ControlInst, Func}
 use Rattle.lifting.specs.Parts.{ctrlOf}
 use Rattle.lifting.specs.Order.{Seen, roots, targetsOf, visit, visitIf, visits}
 use Rattle.lifting.specs.Walk.{top}
 use Rattle.lifting.specs.Absorb.{one}
-use Rattle.laws.specs.Members.{In, NoDup, here, in-cases, in-nil, in-within, not-within, there, within-yes}
+use Rattle.general_laws.specs.Members.{In, NoDup, here, in-cases, in-nil, in-within, not-within, there, within-yes}
 use Rattle.lifting_runs.specs.Accepted.{Root, Targets}
-use Rattle.lifting_runs.specs.Places.{Visited, at-body, by-ctrl}
+use Rattle.lifting_runs.specs.Places.{VisitedAt, at-body, by-ctrl}
 use Rattle.lifting_runs.specs.TourLaid.{Roots}
 
 -- how many below n are not in l
@@ -78,7 +78,7 @@ module _ (F : Func) (tg : Targets F) where
 
   -- a root that a run can come to
   abbrev Fit : ℕ → Type 0
-  Fit r = Root F r × Visited F r top
+  Fit r = Root F r × VisitedAt F r top
 
   record Good (s : Seen) : Type 0 where
     good-once : NoDup (s .order)
@@ -120,7 +120,7 @@ module _ (F : Func) (tg : Targets F) where
         λ x i. elim (in-cases i) [ inl e ↦ more .0 .grows x (subst (λ (z : ℕ). In z (u .seen)) (sym e) (one .1)) | inr j ↦ more .1 x j ],
       )
 
-  targets-ok : (r : ℕ) → Visited F r top → (o : Option ControlInst) → ctrlOf F r ≡ o → (t : ℕ) → In t (reverse (targetsOf o)) → (t < N) × Fit t
+  targets-ok : (r : ℕ) → VisitedAt F r top → (o : Option ControlInst) → ctrlOf F r ≡ o → (t : ℕ) → In t (reverse (targetsOf o)) → (t < N) × Fit t
   targets-ok r v none e t h = absurd (in-nil h)
   targets-ok r v (some c) e t h = let i : In t (c .to) = elim (out-reverse-aux t (c .to) [] h) [ inl i ↦ i | inr z ↦ absurd (in-nil z) ] in (tg .in-range r t e i, (tg .target-root r t e i, by-ctrl v e i))
 
@@ -179,6 +179,6 @@ module _ (F : Func) (tg : Targets F) where
     no-child = λ r h. done-good .good-root r h .0;
   }
 
-  pub roots-visited : (r : ℕ) → In r (roots F) → Visited F r top
+  pub roots-visited : (r : ℕ) → In r (roots F) → VisitedAt F r top
   unfolding roots
   roots-visited r h = done-good .good-root r h .1

@@ -5,14 +5,14 @@ use mathlib.Core.List.{List, [], _∷_, _++_, map}
 use Prim.Native.Nat.{ℕ, zero, suc, _<_}
 use native.Mathlib.Omega.{arith}
 use lib.ListN.{getD}
-use Rattle.laws.specs.Lists.{gather}
+use Rattle.general_laws.specs.Lists.{gather}
 use Rattle.lifting.specs.Ast.{Func, const}
 use Rattle.lifting.specs.Points.{BlockLifting, CfgPoint, Table, edgeOf, eqPoint, points}
 use Rattle.lifting.specs.Absorb.{countIn}
 use Rattle.lifting.specs.Ids.{idOf, labelOf}
 use Rattle.lifting.specs.Instructions.{ifUsed, pairs}
 use Rattle.lifting.specs.BlockRun.{pairOf}
-use Rattle.laws.specs.Members.{In, NoDup, gather-in, here, in-cases, in-gather, in-map, in-nil, map-in, nodup-append, there, times-in}
+use Rattle.general_laws.specs.Members.{In, NoDup, gather-in, here, in-cases, in-gather, in-map, in-nil, map-in, nodup-append, there, times-in}
 use Rattle.lifting_runs.specs.AbsorbCount.{in-count}
 use Rattle.lifting_runs.specs.Ids.{label-inj}
 use Rattle.lifting_runs.specs.EmitRun.{Sound, pair-of, point-named}

@@ -7,7 +7,7 @@ use Rattle.lifting.specs.Ast.{ControlInst, Decl, Func, SelectionKind, Value, lo
 use Rattle.lifting.specs.Parts.{ctrlOf, nodeOf, regionOf}
 use Rattle.lifting.specs.Points.{BlockLifting, CfgPoint, nodeEntry, nodeExit, regionEntry, regionExit}
 use Rattle.lifting.specs.Walk.{Place, entryBlock, exitBlock, inBlock, inNode, nextPoint, outBlock, top}
-use Rattle.laws.specs.Members.{In}
+use Rattle.general_laws.specs.Members.{In}
 
 -- s is what is left of l
 pub data Suffix (l : List ℕ) : List ℕ → Type 0 where
@@ -16,17 +16,17 @@ pub data Suffix (l : List ℕ) : List ℕ → Type 0 where
 
 module _ (F : Func) where
   -- the regions that a run can come to, and where they stand
-  pub data Visited : ℕ → Place → Type 0 where
-    at-body : Visited 0 top
+  pub data VisitedAt : ℕ → Place → Type 0 where
+    at-body : VisitedAt 0 top
     in-case : {r n c : ℕ} {p : Place} {ns : List ℕ} {kd : SelectionKind} {v : Value} {cs : List ℕ} {ds : List Decl} {u : ℕ}
-        → Visited r p → Suffix (regionOf F r .nodes) (n ∷ ns) → nodeOf F n ≡ select kd v cs ds u → In c cs → Visited c (inNode n)
+        → VisitedAt r p → Suffix (regionOf F r .nodes) (n ∷ ns) → nodeOf F n ≡ select kd v cs ds u → In c cs → VisitedAt c (inNode n)
     in-loop : {r n b : ℕ} {p : Place} {ns : List ℕ} {c : Value} {is : List Value} {u : ℕ}
-        → Visited r p → Suffix (regionOf F r .nodes) (n ∷ ns) → nodeOf F n ≡ loop b c is u → Visited b (inNode n)
-    by-ctrl : {r s : ℕ} {c : ControlInst} → Visited r top → ctrlOf F r ≡ some c → In s (c .to) → Visited s top
+        → VisitedAt r p → Suffix (regionOf F r .nodes) (n ∷ ns) → nodeOf F n ≡ loop b c is u → VisitedAt b (inNode n)
+    by-ctrl : {r s : ℕ} {c : ControlInst} → VisitedAt r top → ctrlOf F r ≡ some c → In s (c .to) → VisitedAt s top
 
   -- a table holds the right block at each point that a run can come to
-  pub record Laid (B : CfgPoint → BlockLifting) : Type 0 where
-    pub entry-at : {r : ℕ} {p : Place} → Visited r p → B (regionEntry r) ≡ entryBlock F r p
-    pub exit-at : {r : ℕ} {p : Place} → Visited r p → B (regionExit r) ≡ exitBlock F r p
-    pub in-at : {r n : ℕ} {p : Place} {ns : List ℕ} → Visited r p → Suffix (regionOf F r .nodes) (n ∷ ns) → B (nodeEntry n) ≡ inBlock F (nodeOf F n) n
-    pub out-at : {r n : ℕ} {p : Place} {ns : List ℕ} → Visited r p → Suffix (regionOf F r .nodes) (n ∷ ns) → B (nodeExit n) ≡ outBlock F (nodeOf F n) n (nextPoint r ns)
+  pub record LaidAt (B : CfgPoint → BlockLifting) : Type 0 where
+    pub entry-at : {r : ℕ} {p : Place} → VisitedAt r p → B (regionEntry r) ≡ entryBlock F r p
+    pub exit-at : {r : ℕ} {p : Place} → VisitedAt r p → B (regionExit r) ≡ exitBlock F r p
+    pub in-at : {r n : ℕ} {p : Place} {ns : List ℕ} → VisitedAt r p → Suffix (regionOf F r .nodes) (n ∷ ns) → B (nodeEntry n) ≡ inBlock F (nodeOf F n) n
+    pub out-at : {r n : ℕ} {p : Place} {ns : List ℕ} → VisitedAt r p → Suffix (regionOf F r .nodes) (n ∷ ns) → B (nodeExit n) ≡ outBlock F (nodeOf F n) n (nextPoint r ns)

@@ -2,7 +2,7 @@
 use mathlib.Core.List.{List, [], _∷_}
 use Prim.Native.Nat.{ℕ}
 use lib.ListN.{getD, length}
-use Rattle.laws.specs.Lists.{find}
+use Rattle.general_laws.specs.Lists.{find}
 use Rattle.lifting.specs.Ast.{ControlInstKind, Func, Value, branch, exitInvocation, return, selectBranch, unreachable}
 use Rattle.lifting.specs.Parts.{opOf, valsOr}
 use Rattle.lifting.specs.Points.{BlockLifting, CfgPoint, Terminator, eqPoint, regionEntry}

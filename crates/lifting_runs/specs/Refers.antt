@@ -10,14 +10,14 @@ use lib.Dec.{leb, ltb}
 use lib.ListN.{length}
 use borrow.Author.Tests.{leb-true, ltb-true, not-true}
 use Rattle.opcodes.specs.Table.{table}
-use Rattle.laws.specs.Lists.{gather, within, keys}
+use Rattle.general_laws.specs.Lists.{gather, within, keys}
 use Rattle.lifting.specs.Ast.{Value, Inst, Op, Region, ControlInst, Node, Const, Func}
 use Rattle.lifting.specs.Parts.{regionOf, nodeOf, opOf, ctrlOf, childrenOf, nodeControl, nodeValues, ctrlValues, values, nodeInsts, opInsts, ctrlInsts, insts, nodeList, opList, childList, ctrlRegions, requiredIds}
 use Rattle.lifting.specs.Limits.{maxOpcode, maxControl}
 use Rattle.lifting.specs.References.{named, instFits, controlHolds, referencesHold}
-use Rattle.laws.specs.Members.{All, NoDup}
+use Rattle.general_laws.specs.Members.{All, NoDup}
 use Rattle.lifting_runs.specs.Accepted.{FreeInst}
-use Rattle.laws.specs.Tests.{both, every-all, all-at, all-split, all-line, all-entry, distinct-once}
+use Rattle.general_laws.specs.Tests.{both, every-all, all-at, all-split, all-line, all-entry, distinct-once}
 
 -- a value that names something
 abbrev pub Named : Func → Value → Type 0

@@ -15,11 +15,11 @@ use Rattle.lifting.specs.Control.{controlFits}
 use Rattle.lifting.specs.Order.{roots}
 use Rattle.lifting.specs.Points.{BlockLifting, CfgPoint, Table, blockAt, nodeExit, points, regionEntry, regionExit}
 use Rattle.lifting.specs.Walk.{Place, entryBlock, top, walkOf, walkRoots}
-use Rattle.laws.specs.Members.{All, In, NoDup, all-left, all-right, here}
+use Rattle.general_laws.specs.Members.{All, In, NoDup, all-left, all-right, here}
 use Rattle.lifting_runs.specs.Accepted.{Accepted, Fitting, Forest, Targets}
 use Rattle.lifting_runs.specs.Refers.{refers}
 use Rattle.lifting_runs.specs.Fits
-use Rattle.lifting_runs.specs.Places.{Laid, Suffix, Visited, at-body, by-ctrl, in-case, in-loop}
+use Rattle.lifting_runs.specs.Places.{LaidAt, Suffix, VisitedAt, at-body, by-ctrl, in-case, in-loop}
 use Rattle.lifting_runs.specs.AbsorbAll.{Tidy}
 use Rattle.lifting_runs.specs.Tour.{Tree, in-points}
 use Rattle.lifting_runs.specs.TourOnce.{roots-nodup}
@@ -60,7 +60,7 @@ module _ (F : Func) (ok : Shaped F) where
   walk-is = sym (ap (λ (b : Bool). elim b as (λ (c : Bool). Table) [ true ↦ walkRoots F depth (roots F) | false ↦ [] ]) (ok .body))
 
   -- a visited region is one of the text's
-  pub visited-low : {r : ℕ} {p : Place} → Visited F r p → r < length (F .regions)
+  pub visited-low : {r : ℕ} {p : Place} → VisitedAt F r p → r < length (F .regions)
   visited-low at-body = ok .targets .some-region
   visited-low (in-case {n} {c} v sf e i) = ok .forest .child-range n c (rw e i)
   visited-low (in-loop {n} {b} v sf e) = ok .forest .child-range n b (rw e here)
@@ -75,14 +75,14 @@ module _ (F : Func) (ok : Shaped F) where
   walk-first = (_, sym walk-is ∙ ap (walkRoots F depth) (in-order .body-first))
 
   -- the exit of each visited region, and of each node that stands in one
-  pub visited-exit : {r : ℕ} {p : Place} → Visited F r p → In (regionExit r) (points (walkOf F))
+  pub visited-exit : {r : ℕ} {p : Place} → VisitedAt F r p → In (regionExit r) (points (walkOf F))
   visited-exit {r} {p} v = subst (λ (T : Table). In (regionExit r) (points T)) walk-is (in-points _ _ (here-exit F depth tree (roots F) in-order r p (covers F depth tree (roots F) in-order v)))
 
-  pub visited-out : {r n : ℕ} {p : Place} {ns : List ℕ} → Visited F r p → Suffix (regionOf F r .nodes) (n ∷ ns) → In (nodeExit n) (points (walkOf F))
+  pub visited-out : {r n : ℕ} {p : Place} {ns : List ℕ} → VisitedAt F r p → Suffix (regionOf F r .nodes) (n ∷ ns) → In (nodeExit n) (points (walkOf F))
   visited-out {r} {n} {p} {ns} v sf = subst (λ (T : Table). In (nodeExit n) (points T)) walk-is (in-points _ _ (here-out F depth tree (roots F) in-order r p n ns (covers F depth tree (roots F) in-order v) sf))
 
-  pub laid : Laid F (blockAt (walkOf F))
-  laid = subst (λ (T : Table). Laid F (blockAt T)) walk-is (walk-laid F depth tree (roots F) in-order)
+  pub laid : LaidAt F (blockAt (walkOf F))
+  laid = subst (λ (T : Table). LaidAt F (blockAt T)) walk-is (walk-laid F depth tree (roots F) in-order)
 
   pub tidy : Tidy (walkOf F)
   tidy = subst Tidy walk-is (walk-tidy F depth tree (roots F) in-order (λ n b c is u e. ok .fitting .loop-ins n e))

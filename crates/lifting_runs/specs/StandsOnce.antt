@@ -6,10 +6,10 @@ use Prim.Native.Nat.{ℕ, _≤_, _<_}
 use native.Mathlib.Decide.{decLt, ℕ-discrete}
 use native.Mathlib.Omega.{arith}
 use borrow.Author.Tests.{eqb-true}
-use Rattle.laws.specs.Lists.{times}
+use Rattle.general_laws.specs.Lists.{times}
 use Rattle.lifting.specs.Tree.{standsOnce}
-use Rattle.laws.specs.Members.{All, all-in, NoDup, out-times, times-nodup}
-use Rattle.laws.specs.Tests.{every-below}
+use Rattle.general_laws.specs.Members.{All, all-in, NoDup, out-times, times-nodup}
+use Rattle.general_laws.specs.Tests.{every-below}
 
 pub stands-once : (n : ℕ) (l : List ℕ) → standsOnce n l ≡ true → All (λ i. i < n) l → NoDup l
 stands-once n l e h = times-nodup l (λ i. by-case i (decLt i n))

@@ -7,7 +7,7 @@ use Prim.Native.Nat.{ℕ, zero, suc, _+_, _≤_, _<_}
 use native.Mathlib.Decide.{ℕ-discrete}
 use native.Mathlib.Omega.{arith}
 use lib.ListN.{length, length-map}
-use Rattle.laws.specs.Lists.{choose, choose-yes, find, tabulate}
+use Rattle.general_laws.specs.Lists.{choose, choose-yes, find, tabulate}
 use Rattle.lifting.specs.Ast.{Const, Func, Value, const, regionInput}
 use Rattle.lifting.specs.Parts.{constOf}
 use Rattle.lifting.specs.Points.{BlockLifting, CfgPoint, Table, blockAt, eqPoint, regionEntry}
@@ -19,13 +19,13 @@ use Rattle.lifting.specs.Machine.{Alike}
 use Rattle.lifting.specs.World.{Mem, World, puts}
 use Rattle.lifting.specs.RegionRun.{atFirst, regionLog, regionStart, regionStep}
 use Rattle.lifting.specs.BlockRun.{BlockState, blockLog, blockStart, blockStep, firstBody, firstLabel, idsAtFirst, parts, runOf}
-use Rattle.laws.specs.Members.{All, In, in-left, in-map, in-tabulate, length-tabulate, map-tabulate, tabulate-all, there}
+use Rattle.general_laws.specs.Members.{All, In, in-left, in-map, in-tabulate, length-tabulate, map-tabulate, tabulate-all, there}
 use Rattle.lifting_runs.specs.Simulation.{alike-trans}
 use Rattle.lifting_runs.specs.PointRun.{pointLog, pointStart, pointStep}
-use Rattle.lifting_runs.specs.Places.{Laid}
-use Rattle.lifting_runs.specs.Structure.{Counted, regions-points}
+use Rattle.lifting_runs.specs.Places.{LaidAt}
+use Rattle.lifting_runs.specs.Structure.{CountedStates, regions-points}
 use Rattle.lifting_runs.specs.AbsorbAll.{Tidy, absorb-kept, points-kept}
-use Rattle.lifting_runs.specs.Ids.{EnvRel, Known, puts-same}
+use Rattle.lifting_runs.specs.Ids.{EnvRel, KnownIds, puts-same}
 use Rattle.lifting_runs.specs.Listing.{blocksFor, body-run, emit-blocks, emit-params}
 use Rattle.lifting_runs.specs.EmitRun.{BlockOk, Sound, all-free, free-of, written-alike}
 
@@ -61,11 +61,11 @@ module _ (F : Func) (first : ℕ) (T K : Table) where
       map-tabulate (idOf F first T K) const 0 (length (F .consts))
       ∙ sym (map-tabulate (λ (c : Const). c .id) (constOf F) 0 (length (F .consts))) ∙ ap (map (λ (c : Const). c .id)) (tabulate-all (F .consts) (record { id = 0; opcode = 0 }))
 
-  consts-known : (k n : ℕ) → k + n ≤ length (F .consts) → All (Known F first T K) (tabulate const k n)
+  consts-known : (k n : ℕ) → k + n ≤ length (F .consts) → All (KnownIds F first T K) (tabulate const k n)
   consts-known k zero h = tt
   consts-known k (suc n) h = (omega arith, consts-known (suc k) n (omega arith))
 
-  params-known : (k n : ℕ) → ((i : ℕ) → k ≤ i → i < k + n → In (value (regionInput 0 i)) (names F T K)) → All (Known F first T K) (tabulate (regionInput 0) k n)
+  params-known : (k n : ℕ) → ((i : ℕ) → k ≤ i → i < k + n → In (value (regionInput 0 i)) (names F T K)) → All (KnownIds F first T K) (tabulate (regionInput 0) k n)
   params-known k zero h = tt
   params-known k (suc n) h = (h k (omega arith) (omega arith), params-known (suc k) n (λ i a b. h i (omega arith) (omega arith)))
 
@@ -136,6 +136,6 @@ module _ (F : Func) (first : ℕ) (T : Table) (tidy : Tidy T) (ok : Sound F firs
       (sym (first-state d (w .0) (w .1) (w .2) (w .3) refl)) a)
 
   -- the whole: the regions' run and the list's are alike
-  pub regions-listing : Counted F → Laid F (blockAt T) → ((c : ℕ) → always F (const c) ≡ true → W .truth (W .constant c) ≡ true)
+  pub regions-listing : CountedStates F → LaidAt F (blockAt T) → ((c : ℕ) → always F (const c) ≡ true → W .truth (W .constant c) ≡ true)
       → Alike (regionStep F W) (regionLog F W) (blockStep W (parts (listing F first T) .blocks)) (blockLog W (parts (listing F first T) .blocks)) (regionStart F W) (blockStart W (F .consts) (listing F first T))
   regions-listing counted laid ct = alike-trans (regions-points F W (blockAt T) counted ct laid) (alike-trans (points-kept F W T tidy) kept-listing)

@@ -9,7 +9,7 @@ use native.Mathlib.Decide.{ℕ-discrete, decLt}
 use native.Mathlib.Omega.{arith}
 use lib.ListN.{getD, length, List·getD-map, List·getD-eq-default, length-map}
 use lib.Dec.{eqb}
-use Rattle.laws.specs.Lists.{choose, choose-no, choose-yes, find, keys, tabulate}
+use Rattle.general_laws.specs.Lists.{choose, choose-no, choose-yes, find, keys, tabulate}
 use Rattle.lifting.specs.Ast.{Const, ControlInst, ControlInstKind, Decl, Func, Node, Op, SelectionKind, Value, block, boolCond, branch, const, dataInstOutput, eqValue, exit, exitInvocation, loop, nodeOutput, regionInput, return, select, selectBranch, spvInst, unreachable}
 use Rattle.lifting.specs.Parts.{ctrlOf, insKeys, nodeOf, opOf, outKeys, regionOf, valsOr}
 use Rattle.lifting.specs.Points.{BlockLifting, CfgPoint, Terminator, eqPoint, nodeEntry, nodeExit, plain, regionEntry, regionExit, straight}
@@ -17,14 +17,14 @@ use Rattle.lifting.specs.Walk.{Place, always, childTerm, entryBlock, inBlock, i
 use Rattle.lifting.specs.Machine.{Alike, Out, go}
 use Rattle.lifting.specs.World.{End, Mem, World, andSome, pick, put, puts, reading, reads, truths}
 use Rattle.lifting.specs.RegionRun.{RegionState, Task, again, atFirst, close, doLeave, doNode, enter, execute, leave, leaveBy, node, nodesThen, op, regionLog, regionStart, regionStep, setResult, sets}
-use Rattle.laws.specs.Members.{In, in-getD}
+use Rattle.general_laws.specs.Members.{In, in-getD}
 use Rattle.lifting_runs.specs.Accepted.{Enough, WayFit}
 use Rattle.lifting_runs.specs.Simulation.{Macro, MeetOut, Simulation, alike-of, at-once, out-go, out-halt, right-first}
 use Rattle.lifting_runs.specs.PointRun.{PointState, edge, jump, leavePoint, pointLog, pointStart, pointStep, pointWay}
-use Rattle.lifting_runs.specs.Places.{Laid, Suffix, Visited, at-body, by-ctrl, in-case, in-loop, next, whole}
+use Rattle.lifting_runs.specs.Places.{LaidAt, Suffix, VisitedAt, at-body, by-ctrl, in-case, in-loop, next, whole}
 
 -- the facts of a text that meets no refusal which this part needs
-pub record Counted (F : Func) : Type 0 where
+pub record CountedStates (F : Func) : Type 0 where
   -- 6: `bool` without 2 cases; another select without cases
   pub cases-fit : (n : ℕ) {kd : SelectionKind} {v : Value} {cs : List ℕ} {ds : List Decl} {u : ℕ} → nodeOf F n ≡ select kd v cs ds u → Enough kd (length cs)
   -- 6: a loop's inits, its body's outputs
@@ -132,30 +132,30 @@ module _ (F : Func) {Val : Type 0} (W : World Val) (B : CfgPoint → BlockLiftin
   pub data Tail : ℕ → Place → List Task → Type 0 where
     tail-top : {r : ℕ} → Tail r top (leave r ∷ [])
     tail-case : {r n c : ℕ} {p : Place} {ns : List ℕ} {kd : SelectionKind} {v : Value} {cs : List ℕ} {ds : List Decl} {u : ℕ} {K : List Task}
-        → Visited F r p → Suffix (regionOf F r .nodes) (n ∷ ns) → nodeOf F n ≡ select kd v cs ds u → Tail r p K
+        → VisitedAt F r p → Suffix (regionOf F r .nodes) (n ∷ ns) → nodeOf F n ≡ select kd v cs ds u → Tail r p K
         → Tail c (inNode n) (close (outKeys n ds) c ∷ (map node ns ++ K))
     tail-loop : {r n b : ℕ} {p : Place} {ns : List ℕ} {c : Value} {is : List Value} {u : ℕ} {K : List Task}
-        → Visited F r p → Suffix (regionOf F r .nodes) (n ∷ ns) → nodeOf F n ≡ loop b c is u → Tail r p K
+        → VisitedAt F r p → Suffix (regionOf F r .nodes) (n ∷ ns) → nodeOf F n ≡ loop b c is u → Tail r p K
         → Tail b (inNode n) (again b c ∷ (map node ns ++ K))
 
   -- what is to be done once the ops of a point are done
   pub data After : CfgPoint → List Task → Type 0 where
-    after-entry : {r : ℕ} {p : Place} {K : List Task} → Visited F r p → Tail r p K → After (regionEntry r) (nodesThen F W r K)
+    after-entry : {r : ℕ} {p : Place} {K : List Task} → VisitedAt F r p → Tail r p K → After (regionEntry r) (nodesThen F W r K)
     after-block : {r n : ℕ} {p : Place} {ns : List ℕ} {is : List ℕ} {K : List Task}
-        → Visited F r p → Suffix (regionOf F r .nodes) (n ∷ ns) → nodeOf F n ≡ block is → Tail r p K → After (nodeEntry n) (map node ns ++ K)
+        → VisitedAt F r p → Suffix (regionOf F r .nodes) (n ∷ ns) → nodeOf F n ≡ block is → Tail r p K → After (nodeEntry n) (map node ns ++ K)
     after-exit : {r n : ℕ} {p : Place} {ns : List ℕ} {K : List Task}
-        → Visited F r p → Suffix (regionOf F r .nodes) (n ∷ ns) → Tail r p K → After (nodeExit n) (map node ns ++ K)
+        → VisitedAt F r p → Suffix (regionOf F r .nodes) (n ∷ ns) → Tail r p K → After (nodeExit n) (map node ns ++ K)
     after-loop : {r n b : ℕ} {p : Place} {ns : List ℕ} {c : Value} {is : List Value} {u : ℕ} {K : List Task}
-        → Visited F r p → Suffix (regionOf F r .nodes) (n ∷ ns) → nodeOf F n ≡ loop b c is u → Tail r p K
+        → VisitedAt F r p → Suffix (regionOf F r .nodes) (n ∷ ns) → nodeOf F n ≡ loop b c is u → Tail r p K
         → After (nodeEntry n) (nodesThen F W b (again b c ∷ (map node ns ++ K)))
 
-  pub data Linked : RegionState Val → PointState Val → Type 0 where
+  pub data LinkedStates : RegionState Val → PointState Val → Type 0 where
     linked : (is : List ℕ) (q : CfgPoint) (K : List Task) (m : Mem Val Value) → After q K → Consts F W m
-        → Linked (record { todo = map op is ++ K; mem = m }) (record { at = q; ops = is; mem = m })
+        → LinkedStates (record { todo = map op is ++ K; mem = m }) (record { at = q; ops = is; mem = m })
 
-  module _ (ok : Counted F) (ct : (c : ℕ) → always F (const c) ≡ true → W .truth (W .constant c) ≡ true) (laid : Laid F B) where
+  module _ (ok : CountedStates F) (ct : (c : ℕ) → always F (const c) ≡ true → W .truth (W .constant c) ≡ true) (laid : LaidAt F B) where
     abbrev Big : RegionState Val → PointState Val → Type 0
-    Big = Macro (regionStep F W) (regionLog F W) (pointStep F W B) (pointLog F W B) Linked
+    Big = Macro (regionStep F W) (regionLog F W) (pointStep F W B) (pointLog F W B) LinkedStates
 
     -- arriving at q with block b and values vs
     abbrev landing : CfgPoint → BlockLifting → List Value → Mem Val Value → Out (PointState Val) (End Val)
@@ -198,7 +198,7 @@ module _ (F : Func) {Val : Type 0} (W : World Val) (B : CfgPoint → BlockLiftin
 
     -- at the end of a case
     leave-case : {r n c : ℕ} {p : Place} {ns : List ℕ} {kd : SelectionKind} {v : Value} {cs : List ℕ} {ds : List Decl} {u : ℕ} {K : List Task} (m : Mem Val Value)
-        → Visited F c (inNode n) → Visited F r p → Suffix (regionOf F r .nodes) (n ∷ ns) → nodeOf F n ≡ select kd v cs ds u → Tail r p K → Consts F W m
+        → VisitedAt F c (inNode n) → VisitedAt F r p → Suffix (regionOf F r .nodes) (n ∷ ns) → nodeOf F n ≡ select kd v cs ds u → Tail r p K → Consts F W m
         → Big (to-do (close (outKeys n ds) c ∷ (map node ns ++ K)) m) (at-end (regionExit c) m)
     leave-case {r} {n} {c} {ns} {kd} {v} {cs} {ds} {u} {K} m vc vr sf e tl cm =
         let ex : B (regionExit c) ≡ plain (childTerm F (select kd v cs ds u) n (regionOf F c .outs)) = laid .exit-at vc ∙ ap (λ (d : Node). plain (childTerm F d n (regionOf F c .outs))) e in
@@ -206,8 +206,8 @@ module _ (F : Func) {Val : Type 0} (W : World Val) (B : CfgPoint → BlockLiftin
         let t = childTerm F (select kd v cs ds u) n (regionOf F c .outs) in
         let right : pointStep F W B (at-end (regionExit c) m) ≡ landing (nodeExit n) (outBlock F (select kd v cs ds u) n (nextPoint r ns)) (regionOf F c .outs) m
         = out-of m ex ∙ jump-is t (nodeExit n) _ _ m (edge-is t (nodeExit n) _ (regionOf F c .outs) refl ot (λ x. refl)) ot in
-        at-once _ _ _ _ _ _ _ (subst (λ (y : Out (PointState Val) (End Val)). MeetOut Linked (regionStep F W (to-do (close (outKeys n ds) c ∷ (map node ns ++ K)) m)) y) (sym right)
-        (meet-reading Linked (reads (m .env) (regionOf F c .outs)) _ _
+        at-once _ _ _ _ _ _ _ (subst (λ (y : Out (PointState Val) (End Val)). MeetOut LinkedStates (regionStep F W (to-do (close (outKeys n ds) c ∷ (map node ns ++ K)) m)) y) (sym right)
+        (meet-reading LinkedStates (reads (m .env) (regionOf F c .outs)) _ _
         (λ vs. out-go (linked [] (nodeExit n) (map node ns ++ K) (sets (outKeys n ds) vs m) (after-exit vr sf tl) (consts-out F W m n (length ds) vs cm)))))
 
     -- a condition of opcode 41 is read as true
@@ -222,7 +222,7 @@ module _ (F : Func) {Val : Type 0} (W : World Val) (B : CfgPoint → BlockLiftin
 
     -- at the end of a loop's body
     leave-loop : {r n b : ℕ} {p : Place} {ns : List ℕ} {c : Value} {is : List Value} {u : ℕ} {K : List Task} (m : Mem Val Value)
-        → Visited F b (inNode n) → Visited F r p → Suffix (regionOf F r .nodes) (n ∷ ns) → nodeOf F n ≡ loop b c is u → Tail r p K → Consts F W m
+        → VisitedAt F b (inNode n) → VisitedAt F r p → Suffix (regionOf F r .nodes) (n ∷ ns) → nodeOf F n ≡ loop b c is u → Tail r p K → Consts F W m
         → (a : Bool) → always F c ≡ a
         → Big (to-do (again b c ∷ (map node ns ++ K)) m) (at-end (regionExit b) m)
     leave-loop {r} {n} {b} {ns} {c} {is} {u} {K} m vb vr sf e tl cm true a =
@@ -239,9 +239,9 @@ module _ (F : Func) {Val : Type 0} (W : World Val) (B : CfgPoint → BlockLiftin
         let left : regionStep F W (to-do k m) ≡ reading (reads (m .env) outs) lap
         = ap (λ (o : Option (List Val)). reading o (λ vs. cond (truths W vs) (reading (reads (m .env) outs) lap) (go (to-do (map node ns ++ K) m)))) (w .1)
         ∙ ap (λ (x : Bool). cond x (reading (reads (m .env) outs) lap) (go (to-do (map node ns ++ K) m))) (w .2) in
-        at-once _ _ _ _ _ _ _ (subst (λ (x : Out (RegionState Val) (End Val)). MeetOut Linked x (pointStep F W B (at-end (regionExit b) m))) (sym left)
-        (subst (λ (y : Out (PointState Val) (End Val)). MeetOut Linked (reading (reads (m .env) outs) lap) y) (sym right)
-        (meet-reading Linked (reads (m .env) outs) _ _
+        at-once _ _ _ _ _ _ _ (subst (λ (x : Out (RegionState Val) (End Val)). MeetOut LinkedStates x (pointStep F W B (at-end (regionExit b) m))) (sym left)
+        (subst (λ (y : Out (PointState Val) (End Val)). MeetOut LinkedStates (reading (reads (m .env) outs) lap) y) (sym right)
+        (meet-reading LinkedStates (reads (m .env) outs) _ _
         (λ vs. out-go (linked [] (nodeEntry n) (nodesThen F W b k) (sets (insKeys F b) vs m) (after-loop vr sf e tl) (consts-rin F W m b (length (regionOf F b .ins)) vs cm))))))
     leave-loop {r} {n} {b} {ns} {c} {is} {u} {K} m vb vr sf e tl cm false a =
         let outs = regionOf F b .outs in
@@ -256,24 +256,24 @@ module _ (F : Func) {Val : Type 0} (W : World Val) (B : CfgPoint → BlockLiftin
         let off : jump F W B t (nodeExit n) m ≡ go (at-end (nodeExit n) m)
         = jump-is t (nodeExit n) _ _ m (edge-out t n _ outs refl ot refl) ot in
         let lap : List Val → Out (RegionState Val) (End Val) = λ ws. go (to-do (nodesThen F W b k) (sets (insKeys F b) ws m)) in
-        let two : (x : Bool) → MeetOut Linked (cond x (reading (reads (m .env) outs) lap) (go (to-do (map node ns ++ K) m)))
+        let two : (x : Bool) → MeetOut LinkedStates (cond x (reading (reads (m .env) outs) lap) (go (to-do (map node ns ++ K) m)))
         (jump F W B t (getD (t .targets) (cond x 0 1) (regionEntry 0)) m)
         = λ x. elim x [
-          | true ↦ subst (λ (y : Out (PointState Val) (End Val)). MeetOut Linked (reading (reads (m .env) outs) lap) y) (sym back)
-              (meet-reading Linked (reads (m .env) outs) _ _
+          | true ↦ subst (λ (y : Out (PointState Val) (End Val)). MeetOut LinkedStates (reading (reads (m .env) outs) lap) y) (sym back)
+              (meet-reading LinkedStates (reads (m .env) outs) _ _
               (λ vs. out-go (linked [] (nodeEntry n) (nodesThen F W b k) (sets (insKeys F b) vs m) (after-loop vr sf e tl) (consts-rin F W m b (length (regionOf F b .ins)) vs cm))))
-          | false ↦ subst (λ (y : Out (PointState Val) (End Val)). MeetOut Linked (go (to-do (map node ns ++ K) m)) y) (sym off)
+          | false ↦ subst (λ (y : Out (PointState Val) (End Val)). MeetOut LinkedStates (go (to-do (map node ns ++ K) m)) y) (sym off)
               (out-go (linked [] (nodeExit n) (map node ns ++ K) m (after-exit vr sf tl) cm))
         ] in
-        at-once _ _ _ _ _ _ _ (subst (λ (y : Out (PointState Val) (End Val)). MeetOut Linked (regionStep F W (to-do k m)) y) (sym (out-of m ex))
-        (meet-reading Linked (reads (m .env) (c ∷ [])) _ _ (λ vs. two (truths W vs))))
+        at-once _ _ _ _ _ _ _ (subst (λ (y : Out (PointState Val) (End Val)). MeetOut LinkedStates (regionStep F W (to-do k m)) y) (sym (out-of m ex))
+        (meet-reading LinkedStates (reads (m .env) (c ∷ [])) _ _ (λ vs. two (truths W vs))))
 
     abbrev ctrlTerm : ControlInst → Terminator
     ctrlTerm c = rootTerm F (some c) 0
 
     -- along an edge to another root
-    go-root : {r : ℕ} {c : ControlInst} (m : Mem Val Value) (s : ℕ) → Visited F r top → ctrlOf F r ≡ some c → In s (c .to) → Consts F W m
-        → (q : CfgPoint) → q ≡ regionEntry s → MeetOut Linked (enter F W c s m) (jump F W B (ctrlTerm c) q m)
+    go-root : {r : ℕ} {c : ControlInst} (m : Mem Val Value) (s : ℕ) → VisitedAt F r top → ctrlOf F r ≡ some c → In s (c .to) → Consts F W m
+        → (q : CfgPoint) → q ≡ regionEntry s → MeetOut LinkedStates (enter F W c s m) (jump F W B (ctrlTerm c) q m)
     go-root {r} {c} m s vr e i cm q qe =
         let (t, st) = ok .ctrl-off r e i in
         let vs = by-ctrl vr e i in
@@ -286,12 +286,12 @@ module _ (F : Func) {Val : Type 0} (W : World Val) (B : CfgPoint → BlockLiftin
         let right : jump F W B (ctrlTerm c) q m ≡ reading (reads (m .env) wh) (λ ws. go (record { at = regionEntry s; ops = []; mem = sets (insKeys F s) ws m }))
         = ap (λ (x : CfgPoint). jump F W B (ctrlTerm c) x m) qe ∙ jump-is (ctrlTerm c) (regionEntry s) _ _ m ed at0
         ∙ ap (λ (ks : List Value). reading (reads (m .env) wh) (λ ws. go (record { at = regionEntry s; ops = []; mem = sets ks ws m }))) keys in
-        subst (λ (y : Out (PointState Val) (End Val)). MeetOut Linked (enter F W c s m) y) (sym right)
-        (meet-reading Linked (reads (m .env) wh) _ _
+        subst (λ (y : Out (PointState Val) (End Val)). MeetOut LinkedStates (enter F W c s m) y) (sym right)
+        (meet-reading LinkedStates (reads (m .env) wh) _ _
         (λ ws. out-go (linked [] (regionEntry s) (nodesThen F W s (leave s ∷ [])) (sets (insKeys F s) ws m) (after-entry vs tail-top) (consts-rin F W m s (length (regionOf F s .ins)) ws cm))))
 
-    leave-by : {r : ℕ} {c : ControlInst} (m : Mem Val Value) → Visited F r top → ctrlOf F r ≡ some c → Consts F W m → (vs : List Val)
-        → (k : ControlInstKind) → WayFit k (length (c .to)) → MeetOut Linked (leaveBy F W k c vs m) (pointWay F W B k (ctrlTerm c) vs m)
+    leave-by : {r : ℕ} {c : ControlInst} (m : Mem Val Value) → VisitedAt F r top → ctrlOf F r ≡ some c → Consts F W m → (vs : List Val)
+        → (k : ControlInstKind) → WayFit k (length (c .to)) → MeetOut LinkedStates (leaveBy F W k c vs m) (pointWay F W B k (ctrlTerm c) vs m)
     leave-by m vr e cm vs unreachable f = out-halt
     leave-by m vr e cm vs return f = out-halt
     leave-by {c} m vr e cm vs branch f =
@@ -302,13 +302,13 @@ module _ (F : Func) {Val : Type 0} (W : World Val) (B : CfgPoint → BlockLiftin
         (ap (λ (x : ℕ). getD (map regionEntry (c .to)) (pick W k vs x) (regionEntry 0)) (length-map (c .to) regionEntry) ∙ List·getD-map regionEntry (c .to) i 0)
     leave-by m vr e cm vs (exitInvocation i) f = out-halt
 
-    leave-root : (r : ℕ) (m : Mem Val Value) → Visited F r top → Consts F W m → (o : Option ControlInst) → ctrlOf F r ≡ o → MeetOut Linked (doLeave F W o r m) (leavePoint F W B (rootTerm F o r) m)
-    leave-root r m vr cm none e = meet-reading Linked (reads (m .env) (regionOf F r .outs)) _ _ (λ vs. out-halt)
-    leave-root r m vr cm (some c) e = meet-reading Linked (reads (m .env) (c .ins)) _ _ (λ vs. leave-by m vr e cm vs (c .kind) (ok .ctrl-fit r e))
+    leave-root : (r : ℕ) (m : Mem Val Value) → VisitedAt F r top → Consts F W m → (o : Option ControlInst) → ctrlOf F r ≡ o → MeetOut LinkedStates (doLeave F W o r m) (leavePoint F W B (rootTerm F o r) m)
+    leave-root r m vr cm none e = meet-reading LinkedStates (reads (m .env) (regionOf F r .outs)) _ _ (λ vs. out-halt)
+    leave-root r m vr cm (some c) e = meet-reading LinkedStates (reads (m .env) (c .ins)) _ _ (λ vs. leave-by m vr e cm vs (c .kind) (ok .ctrl-fit r e))
 
-    leave-region : {r : ℕ} {p : Place} {K : List Task} (m : Mem Val Value) → Visited F r p → Tail r p K → Consts F W m → Big (to-do K m) (at-end (regionExit r) m)
+    leave-region : {r : ℕ} {p : Place} {K : List Task} (m : Mem Val Value) → VisitedAt F r p → Tail r p K → Consts F W m → Big (to-do K m) (at-end (regionExit r) m)
     leave-region m vr (tail-top {r}) cm =
-        at-once _ _ _ _ _ _ _ (subst (λ (y : Out (PointState Val) (End Val)). MeetOut Linked (regionStep F W (to-do (leave r ∷ []) m)) y) (sym (out-of m (laid .exit-at vr)))
+        at-once _ _ _ _ _ _ _ (subst (λ (y : Out (PointState Val) (End Val)). MeetOut LinkedStates (regionStep F W (to-do (leave r ∷ []) m)) y) (sym (out-of m (laid .exit-at vr)))
         (leave-root r m vr cm (ctrlOf F r) refl))
     leave-region m vr (tail-case v sf e tl) cm = leave-case m vr v sf e tl cm
     leave-region m vr (tail-loop {c} v sf e tl) cm = leave-loop m vr v sf e tl cm (always F c) refl
@@ -316,15 +316,15 @@ module _ (F : Func) {Val : Type 0} (W : World Val) (B : CfgPoint → BlockLiftin
     -- on to a node of kind d, from a point that leads straight there
     into-node : {r n : ℕ} {p : Place} {ns : List ℕ} {K : List Task} {q : CfgPoint} {b : BlockLifting} (m : Mem Val Value) (d : Node) → nodeOf F n ≡ d
         → B q ≡ b → b .term ≡ straight (nodeEntry n)
-        → Visited F r p → Suffix (regionOf F r .nodes) (n ∷ ns) → Tail r p K → Consts F W m
+        → VisitedAt F r p → Suffix (regionOf F r .nodes) (n ∷ ns) → Tail r p K → Consts F W m
         → Big (to-do (node n ∷ (map node ns ++ K)) m) (at-end q m)
     into-node {n} {ns} {K} {q} m (block is) e bq bt vr sf tl cm =
         let it : B (nodeEntry n) ≡ inBlock F (block is) n = laid .in-at vr sf ∙ ap (λ (d : Node). inBlock F d n) e in
         let right : pointStep F W B (at-end q m) ≡ go (record { at = nodeEntry n; ops = is; mem = m }) = straight-on m bq bt it in
         let left : regionStep F W (to-do (node n ∷ (map node ns ++ K)) m) ≡ go (to-do (map op is ++ (map node ns ++ K)) m)
         = ap (λ (d : Node). doNode F W d n (map node ns ++ K) m) e in
-        at-once _ _ _ _ _ _ _ (subst (λ (x : Out (RegionState Val) (End Val)). MeetOut Linked x (pointStep F W B (at-end q m))) (sym left)
-        (subst (λ (y : Out (PointState Val) (End Val)). MeetOut Linked (go (to-do (map op is ++ (map node ns ++ K)) m)) y) (sym right)
+        at-once _ _ _ _ _ _ _ (subst (λ (x : Out (RegionState Val) (End Val)). MeetOut LinkedStates x (pointStep F W B (at-end q m))) (sym left)
+        (subst (λ (y : Out (PointState Val) (End Val)). MeetOut LinkedStates (go (to-do (map op is ++ (map node ns ++ K)) m)) y) (sym right)
         (out-go (linked is (nodeEntry n) (map node ns ++ K) m (after-block vr sf e tl) cm))))
     into-node {n} {ns} {K} {q} m (select kd v cs ds u) e bq bt vr sf tl cm =
         let it : B (nodeEntry n) ≡ inBlock F (select kd v cs ds u) n = laid .in-at vr sf ∙ ap (λ (d : Node). inBlock F d n) e in
@@ -333,18 +333,18 @@ module _ (F : Func) {Val : Type 0} (W : World Val) (B : CfgPoint → BlockLiftin
         let left : regionStep F W (to-do (node n ∷ (map node ns ++ K)) m) ≡ doNode F W (select kd v cs ds u) n (map node ns ++ K) m
         = ap (λ (d : Node). doNode F W d n (map node ns ++ K) m) e in
         let each : (vs : List Val) (c : ℕ) (g : CfgPoint) → g ≡ regionEntry c → In c cs
-        → MeetOut Linked (go (to-do (nodesThen F W c (close (outKeys n ds) c ∷ (map node ns ++ K))) m)) (jump F W B t g m)
+        → MeetOut LinkedStates (go (to-do (nodesThen F W c (close (outKeys n ds) c ∷ (map node ns ++ K))) m)) (jump F W B t g m)
         = λ vs c g ge i.
         let vc = in-case vr sf e i in
         let en : B (regionEntry c) ≡ entryBlock F c (inNode n) = laid .entry-at vc in
         let right : jump F W B t g m ≡ go (at-end (regionEntry c) m)
         = ap (λ (x : CfgPoint). jump F W B t x m) ge ∙ jump-is t (regionEntry c) _ [] m (ap (λ (b : BlockLifting). b .defaults) en) en in
-        subst (λ (y : Out (PointState Val) (End Val)). MeetOut Linked (go (to-do (nodesThen F W c (close (outKeys n ds) c ∷ (map node ns ++ K))) m)) y) (sym right)
+        subst (λ (y : Out (PointState Val) (End Val)). MeetOut LinkedStates (go (to-do (nodesThen F W c (close (outKeys n ds) c ∷ (map node ns ++ K))) m)) y) (sym right)
         (out-go (linked [] (regionEntry c) _ m (after-entry vc (tail-case vr sf e tl)) cm)) in
         right-first _ _ _ _ _ hop refl
-        (at-once _ _ _ _ _ _ _ (subst (λ (x : Out (RegionState Val) (End Val)). MeetOut Linked x (pointStep F W B (at-end (nodeEntry n) m))) (sym left)
-        (subst (λ (y : Out (PointState Val) (End Val)). MeetOut Linked (doNode F W (select kd v cs ds u) n (map node ns ++ K) m) y) (sym (out-of m it))
-        (meet-reading Linked (reads (m .env) (v ∷ [])) _ _ (λ vs.
+        (at-once _ _ _ _ _ _ _ (subst (λ (x : Out (RegionState Val) (End Val)). MeetOut LinkedStates x (pointStep F W B (at-end (nodeEntry n) m))) (sym left)
+        (subst (λ (y : Out (PointState Val) (End Val)). MeetOut LinkedStates (doNode F W (select kd v cs ds u) n (map node ns ++ K) m) y) (sym (out-of m it))
+        (meet-reading LinkedStates (reads (m .env) (v ∷ [])) _ _ (λ vs.
         each vs (getD cs (pick W kd vs (length cs)) 0) _
         (ap (λ (x : ℕ). getD (map regionEntry cs) (pick W kd vs x) (regionEntry 0)) (length-map cs regionEntry) ∙ List·getD-map regionEntry cs (pick W kd vs (length cs)) 0)
         (in-getD cs _ 0 (pick-lt W kd vs (length cs) (ok .cases-fit n e))))))))
@@ -353,9 +353,9 @@ module _ (F : Func) {Val : Type 0} (W : World Val) (B : CfgPoint → BlockLiftin
         let right : pointStep F W B (at-end q m) ≡ landing (nodeEntry n) (inBlock F (loop b c is u) n) is m = straight-on m bq bt it in
         let left : regionStep F W (to-do (node n ∷ (map node ns ++ K)) m) ≡ doNode F W (loop b c is u) n (map node ns ++ K) m
         = ap (λ (d : Node). doNode F W d n (map node ns ++ K) m) e in
-        at-once _ _ _ _ _ _ _ (subst (λ (x : Out (RegionState Val) (End Val)). MeetOut Linked x (pointStep F W B (at-end q m))) (sym left)
-        (subst (λ (y : Out (PointState Val) (End Val)). MeetOut Linked (doNode F W (loop b c is u) n (map node ns ++ K) m) y) (sym right)
-        (meet-reading Linked (reads (m .env) is) _ _ (λ vs.
+        at-once _ _ _ _ _ _ _ (subst (λ (x : Out (RegionState Val) (End Val)). MeetOut LinkedStates x (pointStep F W B (at-end q m))) (sym left)
+        (subst (λ (y : Out (PointState Val) (End Val)). MeetOut LinkedStates (doNode F W (loop b c is u) n (map node ns ++ K) m) y) (sym right)
+        (meet-reading LinkedStates (reads (m .env) is) _ _ (λ vs.
         out-go (linked [] (nodeEntry n) _ (sets (insKeys F b) vs m) (after-loop vr sf e tl) (consts-rin F W m b (length (regionOf F b .ins)) vs cm))))))
     into-node {n} {ns} {K} {q} m (exit i ws) e bq bt vr sf tl cm =
         let it : B (nodeEntry n) ≡ inBlock F (exit i ws) n = laid .in-at vr sf ∙ ap (λ (d : Node). inBlock F d n) e in
@@ -363,13 +363,13 @@ module _ (F : Func) {Val : Type 0} (W : World Val) (B : CfgPoint → BlockLiftin
         let left : regionStep F W (to-do (node n ∷ (map node ns ++ K)) m) ≡ doNode F W (exit i ws) n (map node ns ++ K) m
         = ap (λ (d : Node). doNode F W d n (map node ns ++ K) m) e in
         right-first _ _ _ _ _ hop refl
-        (at-once _ _ _ _ _ _ _ (subst (λ (x : Out (RegionState Val) (End Val)). MeetOut Linked x (pointStep F W B (at-end (nodeEntry n) m))) (sym left)
-        (subst (λ (y : Out (PointState Val) (End Val)). MeetOut Linked (doNode F W (exit i ws) n (map node ns ++ K) m) y) (sym (out-of m it))
-        (meet-reading Linked (reads (m .env) ws) _ _ (λ vs. out-halt)))))
+        (at-once _ _ _ _ _ _ _ (subst (λ (x : Out (RegionState Val) (End Val)). MeetOut LinkedStates x (pointStep F W B (at-end (nodeEntry n) m))) (sym left)
+        (subst (λ (y : Out (PointState Val) (End Val)). MeetOut LinkedStates (doNode F W (exit i ws) n (map node ns ++ K) m) y) (sym (out-of m it))
+        (meet-reading LinkedStates (reads (m .env) ws) _ _ (λ vs. out-halt)))))
 
     -- on to what follows the nodes before ns
     flow : {r : ℕ} {p : Place} {K : List Task} {q : CfgPoint} {b : BlockLifting} (m : Mem Val Value) (ns : List ℕ) → B q ≡ b → b .term ≡ straight (nextPoint r ns)
-        → Visited F r p → Suffix (regionOf F r .nodes) ns → Tail r p K → Consts F W m → Big (to-do (map node ns ++ K) m) (at-end q m)
+        → VisitedAt F r p → Suffix (regionOf F r .nodes) ns → Tail r p K → Consts F W m → Big (to-do (map node ns ++ K) m) (at-end q m)
     flow m [] bq bt vr sf tl cm = right-first _ _ _ _ _ (straight-on m bq bt (laid .exit-at vr)) refl (leave-region m vr tl cm)
     flow m (n ∷ ns) bq bt vr sf tl cm = into-node m (nodeOf F n) refl bq bt vr sf tl cm
 
@@ -392,21 +392,21 @@ module _ (F : Func) {Val : Type 0} (W : World Val) (B : CfgPoint → BlockLiftin
     macro-at : (is : List ℕ) (q : CfgPoint) (K : List Task) (m : Mem Val Value) → After q K → Consts F W m
         → Big (to-do (map op is ++ K) m) (record { at = q; ops = is; mem = m })
     macro-at [] q K m a cm = after-ops m a cm
-    macro-at (i ∷ is) q K m a cm = at-once _ _ _ _ _ _ _ (meet-reading Linked (reads (m .env) (opOf F i .operands)) _ _ (λ vs.
+    macro-at (i ∷ is) q K m a cm = at-once _ _ _ _ _ _ _ (meet-reading LinkedStates (reads (m .env) (opOf F i .operands)) _ _ (λ vs.
         out-go (linked is q K (execute W (opOf F i) i vs m) a (consts-execute F W (opOf F i) i vs m cm))))
 
-    linked-log : {s : RegionState Val} {t : PointState Val} → Linked s t → regionLog F W s ≡ pointLog F W B t
+    linked-log : {s : RegionState Val} {t : PointState Val} → LinkedStates s t → regionLog F W s ≡ pointLog F W B t
     linked-log (linked is q K m a cm) = refl
 
-    linked-macro : {s : RegionState Val} {t : PointState Val} → Linked s t → Big s t
+    linked-macro : {s : RegionState Val} {t : PointState Val} → LinkedStates s t → Big s t
     linked-macro (linked is q K m a cm) = macro-at is q K m a cm
 
     -- the run of the regions and that of the points are alike
     pub regions-points : Alike (regionStep F W) (regionLog F W) (pointStep F W B) (pointLog F W B) (regionStart F W) (pointStart F W B)
     regions-points =
-        let s : Simulation (regionStep F W) (regionLog F W) (pointStep F W B) (pointLog F W B) Linked = record { same-log = linked-log; macro = linked-macro } in
+        let s : Simulation (regionStep F W) (regionLog F W) (pointStep F W B) (pointLog F W B) LinkedStates = record { same-log = linked-log; macro = linked-macro } in
         let en : B (regionEntry 0) ≡ entryBlock F 0 top = laid .entry-at at-body in
         let m : Mem Val Value = record { env = atFirst F W; log = [] } in
         subst (λ (is : List ℕ). Alike (regionStep F W) (regionLog F W) (pointStep F W B) (pointLog F W B) (regionStart F W) (record { at = regionEntry 0; ops = is; mem = m }))
         (sym (ap (λ (b : BlockLifting). b .ops) en))
-        (alike-of _ _ _ _ Linked s (linked [] (regionEntry 0) _ m (after-entry at-body tail-top) (consts-first F W)))
+        (alike-of _ _ _ _ LinkedStates s (linked [] (regionEntry 0) _ m (after-entry at-body tail-top) (consts-first F W)))

@@ -8,14 +8,14 @@ use mathlib.Core.Option.{Option, none, some}
 use Prim.Native.Nat.{ℕ, suc}
 use native.Mathlib.Omega.{arith}
 use lib.ListN.{length, length-map}
-use Rattle.laws.specs.Lists.{choose-no, choose-yes, find, keys}
+use Rattle.general_laws.specs.Lists.{choose-no, choose-yes, find, keys}
 use Rattle.lifting.specs.Ast.{ControlInst, Func, Node, Value, block, exit, loop, select, selectBranch}
 use Rattle.lifting.specs.Parts.{childrenOf, ctrlOf, nodeOf, regionOf, valsOr}
 use Rattle.lifting.specs.Points.{BlockLifting, CfgPoint, Table, Terminator, eqPoint, nodeEntry, nodeExit, nothingHere, regionEntry, regionExit, straight}
 use Rattle.lifting.specs.Walk.{Place, always, childTerm, entryBlock, exitBlock, exitTerm, inBlock, inNode, loopTerm, nextPoint, outBlock, rootTerm, someVals, top, walkRoots}
-use Rattle.laws.specs.Members.{All, In, here, in-cases, in-nil, length-tabulate, map-in}
+use Rattle.general_laws.specs.Members.{All, In, here, in-cases, in-nil, length-tabulate, map-in}
 use Rattle.lifting_runs.specs.Accepted.{Fitting, FreeKind, OutsFit, Targets, WayFit}
-use Rattle.lifting_runs.specs.Places.{Suffix, Visited, at-body, by-ctrl, in-case, in-loop, next, whole}
+use Rattle.lifting_runs.specs.Places.{Suffix, VisitedAt, at-body, by-ctrl, in-case, in-loop, next, whole}
 use Rattle.lifting_runs.specs.Visits.{every-visited}
 use Rattle.lifting_runs.specs.Ended.{EndedCase, isSelect}
 use Rattle.lifting_runs.specs.Structure.{find-entry}
@@ -56,16 +56,16 @@ module _ (F : Func) (depth : ℕ) (tr : Tree F depth) (rs : List ℕ) (ok : Root
   found : (p : CfgPoint) (b : BlockLifting) → In (p, b) T → find eqPoint p T ≡ some b
   found p b h = find-unique T (unique F depth tr rs ok) p b h
 
-  entry-found : (r : ℕ) (p : Place) → Visited F r p → find eqPoint (regionEntry r) T ≡ some (entryBlock F r p)
+  entry-found : (r : ℕ) (p : Place) → VisitedAt F r p → find eqPoint (regionEntry r) T ≡ some (entryBlock F r p)
   entry-found r p v = found _ _ (here-entry F depth tr rs ok r p (covers F depth tr rs ok v))
 
-  exit-found : (r : ℕ) (p : Place) → Visited F r p → find eqPoint (regionExit r) T ≡ some (exitBlock F r p)
+  exit-found : (r : ℕ) (p : Place) → VisitedAt F r p → find eqPoint (regionExit r) T ≡ some (exitBlock F r p)
   exit-found r p v = found _ _ (here-exit F depth tr rs ok r p (covers F depth tr rs ok v))
 
-  in-found : (r n : ℕ) (p : Place) (ns : List ℕ) → Visited F r p → Suffix (regionOf F r .nodes) (n ∷ ns) → find eqPoint (nodeEntry n) T ≡ some (inBlock F (nodeOf F n) n)
+  in-found : (r n : ℕ) (p : Place) (ns : List ℕ) → VisitedAt F r p → Suffix (regionOf F r .nodes) (n ∷ ns) → find eqPoint (nodeEntry n) T ≡ some (inBlock F (nodeOf F n) n)
   in-found r n p ns v sf = found _ _ (here-in F depth tr rs ok r p n ns (covers F depth tr rs ok v) sf)
 
-  out-found : (r n : ℕ) (p : Place) (ns : List ℕ) → Visited F r p → Suffix (regionOf F r .nodes) (n ∷ ns) → find eqPoint (nodeExit n) T ≡ some (outBlock F (nodeOf F n) n (nextPoint r ns))
+  out-found : (r n : ℕ) (p : Place) (ns : List ℕ) → VisitedAt F r p → Suffix (regionOf F r .nodes) (n ∷ ns) → find eqPoint (nodeExit n) T ≡ some (outBlock F (nodeOf F n) n (nextPoint r ns))
   out-found r n p ns v sf = found _ _ (here-out F depth tr rs ok r p n ns (covers F depth tr rs ok v) sf)
 
   in-fills : (n : ℕ) (d : Node) → nodeOf F n ≡ d → length (inBlock F d n .keys) ≡ length (inBlock F d n .defaults)
@@ -74,7 +74,7 @@ module _ (F : Func) (depth : ℕ) (tr : Tree F depth) (rs : List ℕ) (ok : Root
   in-fills n (loop b c is u) e = length-tabulate _ 0 (length (regionOf F b .ins)) ∙ sym (fit .loop-ins n e)
   in-fills n (exit i vs) e = refl
 
-  next-ok : (r : ℕ) (p : Place) (ns : List ℕ) → Visited F r p → Suffix (regionOf F r .nodes) ns → TermOk T (straight (nextPoint r ns))
+  next-ok : (r : ℕ) (p : Place) (ns : List ℕ) → VisitedAt F r p → Suffix (regionOf F r .nodes) ns → TermOk T (straight (nextPoint r ns))
   next-ok r p [] v sf = straight-ok T (regionExit r) (exitBlock F r p) (exit-found r p v) refl
   next-ok r p (n ∷ ns) v sf = straight-ok T (nodeEntry n) (inBlock F (nodeOf F n) n) (in-found r n p ns v sf) (in-fills n (nodeOf F n) refl)
 
@@ -95,7 +95,7 @@ module _ (F : Func) (depth : ℕ) (tr : Tree F depth) (rs : List ℕ) (ok : Root
     e ∙ ap (λ (o : Option (List Value)). length (valsOr o (b .defaults))) (sym (choose-yes (eqPoint p q) (some (v ∷ vs)) none z)),
   )
 
-  child-ok : (r n c : ℕ) (p : Place) (ns : List ℕ) (d : Node) → nodeOf F n ≡ d → In c (childrenOf d) → Visited F r p → Suffix (regionOf F r .nodes) (n ∷ ns) → TermFine (regionExit c) (childTerm F d n (regionOf F c .outs))
+  child-ok : (r n c : ℕ) (p : Place) (ns : List ℕ) (d : Node) → nodeOf F n ≡ d → In c (childrenOf d) → VisitedAt F r p → Suffix (regionOf F r .nodes) (n ∷ ns) → TermFine (regionExit c) (childTerm F d n (regionOf F c .outs))
   child-ok r n c p ns (block is) e i v sf = absurd (in-nil i)
   child-ok r n c p ns (exit j ws) e i v sf = absurd (in-nil i)
   child-ok r n c p ns (select kd w cs ds u) e i v sf = by-outs (fit .case-outs n c e i)
@@ -163,7 +163,7 @@ module _ (F : Func) (depth : ℕ) (tr : Tree F depth) (rs : List ℕ) (ok : Root
       }
 
   -- the way out of a root
-  root-ok : (r : ℕ) → Visited F r top → (o : Option ControlInst) → ctrlOf F r ≡ o → TermOk T (rootTerm F o r)
+  root-ok : (r : ℕ) → VisitedAt F r top → (o : Option ControlInst) → ctrlOf F r ≡ o → TermOk T (rootTerm F o r)
   root-ok r v none e = record { free = tt; way = refl; to = λ q i. absurd (in-nil i) }
   root-ok r v (some c) e = record {
     free = fit .ctrl-free r e;
@@ -183,7 +183,7 @@ module _ (F : Func) (depth : ℕ) (tr : Tree F depth) (rs : List ℕ) (ok : Root
   }
 
   -- the way out of a node's entry
-  in-ok : (r n : ℕ) (p : Place) (ns : List ℕ) (d : Node) → nodeOf F n ≡ d → Visited F r p → Suffix (regionOf F r .nodes) (n ∷ ns) → TermOk T (inBlock F d n .term)
+  in-ok : (r n : ℕ) (p : Place) (ns : List ℕ) (d : Node) → nodeOf F n ≡ d → VisitedAt F r p → Suffix (regionOf F r .nodes) (n ∷ ns) → TermOk T (inBlock F d n .term)
   in-ok r n p ns (block is) e v sf = straight-ok T (nodeExit n) (outBlock F (block is) n (nextPoint r ns)) (out-found r n p ns v sf ∙ ap (λ (d : Node). some (outBlock F d n (nextPoint r ns))) e) refl
   in-ok r n p ns (select kd w cs ds u) e v sf = record {
     free = fit .select-free n e;
@@ -201,13 +201,13 @@ module _ (F : Func) (depth : ℕ) (tr : Tree F depth) (rs : List ℕ) (ok : Root
   }
   in-ok r n p ns (exit i vs) e v sf = record { free = fit .exit-free n e; way = refl; to = λ q j. absurd (in-nil j) }
 
-  exit-ok : (r : ℕ) (p : Place) → Visited F r p → TermFine (regionExit r) (exitTerm F r p)
+  exit-ok : (r : ℕ) (p : Place) → VisitedAt F r p → TermFine (regionExit r) (exitTerm F r p)
   exit-ok r p at-body = whole-fine (regionExit 0) (root-ok 0 at-body (ctrlOf F 0) refl)
   exit-ok r p (by-ctrl {s} v e i) = whole-fine (regionExit s) (root-ok s (by-ctrl v e i) (ctrlOf F s) refl)
   exit-ok r p (in-case {r = s} {n} {c} {p = q} {ns} v sf e i) = child-ok s n c q ns (nodeOf F n) refl (subst (λ (d : Node). In c (childrenOf d)) (sym e) i) v sf
   exit-ok r p (in-loop {r = s} {n} {b} {p = q} {ns} v sf e) = child-ok s n b q ns (nodeOf F n) refl (subst (λ (d : Node). In b (childrenOf d)) (sym e) here) v sf
 
   -- every terminator of the walk, where the roots are what a run can come to
-  pub walk-terms : ((r : ℕ) → In r rs → Visited F r top) → All (λ (x : CfgPoint × BlockLifting). TermLeads T (x .1 .term) × (EndedCase F (x .0) ⊎ TermOk T (x .1 .term))) T
+  pub walk-terms : ((r : ℕ) → In r rs → VisitedAt F r top) → All (λ (x : CfgPoint × BlockLifting). TermLeads T (x .1 .term) × (EndedCase F (x .0) ⊎ TermOk T (x .1 .term))) T
   walk-terms = every-visited F (λ (x : CfgPoint × BlockLifting). TermFine (x .0) (x .1 .term)) (λ r p v. whole-fine (regionEntry r) (next-ok r p (regionOf F r .nodes) v whole)) exit-ok
       (λ r n p ns v sf. whole-fine (nodeEntry n) (in-ok r n p ns (nodeOf F n) refl v sf)) (λ r n p ns v sf. whole-fine (nodeExit n) (next-ok r p ns v (next sf))) depth rs

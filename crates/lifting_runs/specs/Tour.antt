@@ -6,12 +6,12 @@ use mathlib.Core.Option.{none, some}
 use Prim.Native.Nat.{ℕ, _<_}
 use native.Mathlib.Omega.{arith}
 use lib.ListN.{getD, length}
-use Rattle.laws.specs.Lists.{choose, choose-no, find}
+use Rattle.general_laws.specs.Lists.{choose, choose-no, find}
 use Rattle.lifting.specs.Ast.{Func}
 use Rattle.lifting.specs.Parts.{childrenOf, nodeOf, regionOf}
 use Rattle.lifting.specs.Points.{BlockLifting, CfgPoint, Table, eqPoint, points}
-use Rattle.laws.specs.Members.{In, NoDup, here, in-cases, in-nil, there}
-use Rattle.laws.specs.Tests.{once-by}
+use Rattle.general_laws.specs.Members.{In, NoDup, here, in-cases, in-nil, there}
+use Rattle.general_laws.specs.Tests.{once-by}
 use Rattle.lifting_runs.specs.AbsorbCount.{Unique}
 
 pub points-append : (T U : Table) → points (T ++ U) ≡ points T ++ points U

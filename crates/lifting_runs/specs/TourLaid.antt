@@ -5,15 +5,15 @@ use mathlib.Core.Option.{Option, none, some}
 use Prim.Native.Nat.{ℕ, zero, suc, _<_}
 use native.Mathlib.Omega.{arith}
 use lib.ListN.{length}
-use Rattle.laws.specs.Lists.{choose-yes, find, tabulate}
+use Rattle.general_laws.specs.Lists.{choose-yes, find, tabulate}
 use Rattle.lifting.specs.Ast.{ControlInst, Func, Node, Value, block, exit, loop, select}
 use Rattle.lifting.specs.Parts.{childrenOf, ctrlOf, nodeOf, regionOf}
 use Rattle.lifting.specs.Points.{BlockLifting, CfgPoint, Table, blockAt, blockOr, eqPoint, nodeEntry, nodeExit, regionEntry, regionExit}
 use Rattle.lifting.specs.Walk.{Place, entryBlock, exitBlock, inBlock, inNode, nextPoint, outBlock, top, walkKids, walkNode, walkNodes, walkRegion, walkRoots}
 use Rattle.lifting.specs.Absorb.{firstUse}
-use Rattle.laws.specs.Members.{All, In, NoDup, here, in-left, in-right, there}
+use Rattle.general_laws.specs.Members.{All, In, NoDup, here, in-left, in-right, there}
 use Rattle.lifting_runs.specs.Accepted.{Root}
-use Rattle.lifting_runs.specs.Places.{Laid, Suffix, Visited, at-body, by-ctrl, in-case, in-loop, next, whole}
+use Rattle.lifting_runs.specs.Places.{LaidAt, Suffix, VisitedAt, at-body, by-ctrl, in-case, in-loop, next, whole}
 use Rattle.lifting_runs.specs.AbsorbCount.{Unique}
 use Rattle.lifting_runs.specs.AbsorbAll.{Tidy}
 use Rattle.lifting_runs.specs.EmitRun.{all-find}
@@ -58,7 +58,7 @@ module _ (F : Func) where
     pub Covers : ℕ → Place → Type 0
     Covers r p = (k : ℕ) × (tr .rank r < k) × ((x : CfgPoint × BlockLifting) → In x (walkRegion F k r p) → In x T)
 
-    top-root : {r : ℕ} {p : Place} → Visited F r p → p ≡ top → In r rs
+    top-root : {r : ℕ} {p : Place} → VisitedAt F r p → p ≡ top → In r rs
     top-root at-body e = subst (In 0) (sym (ok .body-first)) here
     top-root (in-case v sf q i) e = absurd (let z : _≡_ {A = ℕ} 0 1 = cc in omega arith)
     top-root (in-loop v sf q) e = absurd (let z : _≡_ {A = ℕ} 0 1 = cc in omega arith)
@@ -77,7 +77,7 @@ module _ (F : Func) where
       λ x g. f x (there (in-left _ (in-node (λ b q. walkRegion F k b q) r n ns sf (there (in-left _ (in-kids (λ b q. walkRegion F k b q) n c (childrenOf (nodeOf F n)) i g)))))),
     )
 
-    pub covers : {r : ℕ} {p : Place} → Visited F r p → Covers r p
+    pub covers : {r : ℕ} {p : Place} → VisitedAt F r p → Covers r p
     covers at-body = covers-top 0 (top-root at-body refl)
     covers (in-case {r} {n} {c} {p} {ns} v sf q i) = covers-kid r n c p ns (covers v) sf (subst (λ (d : Node). In c (childrenOf d)) (sym q) i)
     covers (in-loop {r} {n} {b} {p} {ns} v sf q) = covers-kid r n b p ns (covers v) sf (subst (λ (d : Node). In b (childrenOf d)) (sym q) here)
@@ -110,7 +110,7 @@ module _ (F : Func) where
     here-out r p n ns (zero, h, f) sf = absurd (omega arith)
     here-out r p n ns (suc k, h, f) sf = f _ (there (in-left _ (in-node (λ c q. walkRegion F k c q) r n ns sf (there (in-right (walkKids F (λ c q. walkRegion F k c q) n (childrenOf (nodeOf F n))) here)))))
 
-    pub walk-laid : Laid F (blockAt T)
+    pub walk-laid : LaidAt F (blockAt T)
     walk-laid = record {
       entry-at = λ v. at-point _ _ (here-entry _ _ (covers v));
       exit-at = λ v. at-point _ _ (here-exit _ _ (covers v));

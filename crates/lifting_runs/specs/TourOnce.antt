@@ -8,7 +8,7 @@ use Rattle.lifting.specs.Ast.{Func}
 use Rattle.lifting.specs.Parts.{childrenOf, nodeOf, regionOf}
 use Rattle.lifting.specs.Points.{BlockLifting, CfgPoint, Table, nodeEntry, nodeExit, points, regionEntry, regionExit}
 use Rattle.lifting.specs.Walk.{Place, entryBlock, exitBlock, inNode, nextPoint, outBlock, top, walkKids, walkNode, walkNodes, walkRegion, walkRoots}
-use Rattle.laws.specs.Members.{In, NoDup, here, in-cases, in-nil, in-split, nodup-append, there}
+use Rattle.general_laws.specs.Members.{In, NoDup, here, in-cases, in-nil, in-split, nodup-append, there}
 use Rattle.lifting_runs.specs.Accepted.{Root}
 use Rattle.lifting_runs.specs.Tour.{Tree, points-append}
 

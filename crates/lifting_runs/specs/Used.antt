@@ -8,7 +8,7 @@ use Prim.Native.Nat.{ℕ, zero, suc}
 use native.Mathlib.Omega.{arith}
 use lib.ListN.{length}
 use borrow.Author.Tests.{ltb-true}
-use Rattle.laws.specs.Lists.{gather, member, find}
+use Rattle.general_laws.specs.Lists.{gather, member, find}
 use Rattle.lifting.specs.Ast.{Value, const, regionInput, nodeOutput, dataInstOutput, eqValue, Node, block, select, loop, exit, ControlInst, Func}
 use Rattle.lifting.specs.Parts.{regionOf, nodeOf, opOf, ctrlOf, nodeValues, valsOr}
 use Rattle.lifting.specs.Points.{CfgPoint, regionEntry, nodeEntry, nodeExit, eqPoint, BlockLifting, Table, plain, blockAt, edgeOf}
@@ -16,9 +16,9 @@ use Rattle.lifting.specs.Walk.{Place, top, inNode, someVals, rootTerm, always, 
 use Rattle.lifting.specs.Absorb.{kept}
 use Rattle.lifting.specs.Ids.{paramKeys, resultOf, phiKeys, opKeys}
 use Rattle.lifting.specs.Answer.{setValues, isSet, blockUses, usedValues, valuesSet}
-use Rattle.laws.specs.Members.{In, in-member, All, all-append, all-in, all-from}
+use Rattle.general_laws.specs.Members.{In, in-member, All, all-append, all-in, all-from}
 use Rattle.lifting_runs.specs.Accepted.{Settled, a-const, a-param, a-phi, a-result, Settles}
-use Rattle.laws.specs.Tests.{every-all, all-tabulate, all-gather, all-split, all-part, find-in}
+use Rattle.general_laws.specs.Tests.{every-all, all-tabulate, all-gather, all-split, all-part, find-in}
 use Rattle.lifting_runs.specs.Each.{every-walked, Each, each-at, each-kept}
 use Rattle.lifting_runs.specs.Refers.{Named, Refers}
 

@@ -22,13 +22,13 @@ use Rattle.lifting.specs.Absorb.{absorb, kept}
 use Rattle.lifting.specs.Instructions.{blockInsts, endInst, functionInst, instructions, listOf, paramInst, paramInsts}
 use Rattle.lifting.specs.Words.{words}
 use Rattle.lifting.specs.Answer.{Answer, Parsed, answer, idsFit, lifted, listed, parsed, refused, valuesSet, written}
-use Rattle.laws.specs.Tests.{both}
+use Rattle.general_laws.specs.Tests.{both}
 use Rattle.lifting_runs.specs.Refers.{Refers, refers}
 use Rattle.lifting_runs.specs.Shaped.{Shaped, shaped-checked}
 use Rattle.lifting_blocks.specs.Totals.{total}
 use Rattle.lifting_sizes.specs.Sums.{total-append}
 use Rattle.lifting_sizes.specs.Weights.{head, imm, linesWeight, maxWords}
-use Rattle.lifting_sizes.specs.Blocks.{blocks-weight, instWeight, length-inst, length-words}
+use Rattle.lifting_sizes.specs.BlockWeights.{blocks-weight, instWeight, length-inst, length-words}
 use Rattle.lifting_sizes.specs.Flow.{points-weight}
 use Rattle.lifting_sizes.specs.Lines.{phi-lines, points-lines}
 use Rattle.lifting_sizes.specs.Parsing.{by-parse, by-test, denial-other}

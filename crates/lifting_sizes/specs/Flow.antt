@@ -8,15 +8,15 @@ use mathlib.Core.Option.{Option, none, some}
 use Prim.Native.Nat.{ℕ, zero, suc, _+_, _*_, _≤_, _<_}
 use native.Mathlib.Omega.{arith}
 use lib.ListN.{length, length-map}
-use Rattle.laws.specs.Lists.{choose, choose-no, find}
+use Rattle.general_laws.specs.Lists.{choose, choose-no, find}
 use Rattle.lifting.specs.Ast.{ControlInst, Func, Node, Value, block, exit, loop, select}
 use Rattle.lifting.specs.Parts.{childrenOf, ctrlOf, nodeOf, regionOf, valsOr}
 use Rattle.lifting.specs.Points.{BlockLifting, CfgPoint, Table, Terminator, eqPoint, nodeEntry, nodeExit, points, regionEntry, regionExit, straight}
 use Rattle.lifting.specs.Walk.{Place, always, childTerm, exitTerm, inBlock, inNode, loopTerm, nextPoint, rootTerm, someVals, top, walkOf}
 use Rattle.lifting.specs.Absorb.{countIn}
-use Rattle.laws.specs.Members.{In, here, in-cases, in-nil, map-in, there}
+use Rattle.general_laws.specs.Members.{In, here, in-cases, in-nil, map-in, there}
 use Rattle.lifting_runs.specs.Pairs.{counted-in}
-use Rattle.lifting_runs.specs.Places.{Visited}
+use Rattle.lifting_runs.specs.Places.{VisitedAt}
 use Rattle.lifting_runs.specs.Shaped.{Shaped, walk-once}
 use Rattle.lifting_blocks.specs.Chain.{Chain, firstOf}
 use Rattle.lifting_blocks.specs.Steps.{Step, placed, step-entry, step-exit, step-in, step-out, walk-steps}
@@ -151,7 +151,7 @@ module _ (F : Func) (ok : Shaped F) where
       )
 
   -- at any region's exit
-  exit-weight : (r : ℕ) (p : Place) → Visited F r p → endWeight (exitTerm F r p) + 2 * flow F (exitTerm F r p) ≤ weightAt F (regionExit r)
+  exit-weight : (r : ℕ) (p : Place) → VisitedAt F r p → endWeight (exitTerm F r p) + 2 * flow F (exitTerm F r p) ≤ weightAt F (regionExit r)
   exit-weight r top v = omega (arith, root-weight (ctrlOf F r) r)
   exit-weight r (inNode n) v = omega (arith, child-weight r n (nodeOf F n) refl (placed F (ok .targets) v))
 

@@ -6,13 +6,13 @@ use Prim.Native.Nat.{ℕ, _+_, _*_, _≤_}
 use native.Mathlib.Decide.{ℕ-discrete}
 use native.Mathlib.Omega.{arith}
 use lib.ListN.{length, length-map}
-use Rattle.laws.specs.Lists.{below}
+use Rattle.general_laws.specs.Lists.{below}
 use Rattle.lifting.specs.Ast.{ControlInst, Func, Node, Value, block, exit, loop, select}
 use Rattle.lifting.specs.Parts.{childList, childrenOf, ctrlOf, nodeOf, regionOf, targets}
 use Rattle.lifting.specs.Points.{BlockLifting, CfgPoint, Table, nodeEntry, nodeExit, regionEntry, regionExit}
 use Rattle.lifting.specs.Walk.{Place, always, childTerm, exitTerm, inBlock, inNode, loopTerm, rootTerm, top, walkOf}
 use Rattle.lifting.specs.Absorb.{labels}
-use Rattle.laws.specs.Members.{all-in, length-tabulate}
+use Rattle.general_laws.specs.Members.{all-in, length-tabulate}
 use Rattle.lifting_runs.specs.Refers.{Refers}
 use Rattle.lifting_runs.specs.Shaped.{Shaped}
 use Rattle.lifting_blocks.specs.Chain.{chain-all}

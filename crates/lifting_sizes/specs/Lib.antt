@@ -1,7 +1,7 @@
 -- A bound on the words of every list, and on the points and labels that a walk visits.
 pub mod Sums
 pub mod Weights
-pub mod Blocks
+pub mod BlockWeights
 pub mod Flow
 pub mod Lines
 pub mod Labels

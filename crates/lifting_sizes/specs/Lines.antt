@@ -8,17 +8,17 @@ use Prim.Native.Nat.{ℕ, zero, suc, _+_, _*_, _≤_, _<_}
 use native.Mathlib.Decide.{ℕ-discrete}
 use native.Mathlib.Omega.{arith}
 use lib.ListN.{getD, length, length-append}
-use Rattle.laws.specs.Lists.{below, gather}
+use Rattle.general_laws.specs.Lists.{below, gather}
 use Rattle.lifting.specs.Ast.{ControlInst, Func, Inst, Node, Op, Region, Value, block, call, exit, loop, nodeOutput, regionInput, select}
 use Rattle.lifting.specs.Parts.{blockOps, childList, childrenOf, ctrlInsts, ctrlOf, ctrlValues, decls, immediates, insKeys, insts, nodeInsts, nodeList, nodeOf, nodeValues, opInsts, opList, opOf, outKeys, outsOf, regionOf, targets, values}
 use Rattle.lifting.specs.Order.{roots}
 use Rattle.lifting.specs.Points.{BlockLifting, CfgPoint, Table, eqPoint, nodeEntry, nodeExit, points, regionEntry, regionExit}
 use Rattle.lifting.specs.Walk.{Place, entryKeys, inBlock, inNode, top, walkOf}
 use Rattle.lifting.specs.Ids.{phiKeys}
-use Rattle.laws.specs.Members.{In, NoDup, all-in, gather-in, here, in-gather, in-left, in-map, in-nil, in-right, in-split, in-tabulate, length-tabulate, nodup-append, nodup-tabulate}
-use Rattle.laws.specs.Tests.{all-line, find-in}
+use Rattle.general_laws.specs.Members.{In, NoDup, all-in, gather-in, here, in-gather, in-left, in-map, in-nil, in-right, in-split, in-tabulate, length-tabulate, nodup-append, nodup-tabulate}
+use Rattle.general_laws.specs.Tests.{all-line, find-in}
 use Rattle.lifting_runs.specs.Refers.{Refers}
-use Rattle.lifting_runs.specs.Places.{Suffix, Visited}
+use Rattle.lifting_runs.specs.Places.{Suffix, VisitedAt}
 use Rattle.lifting_runs.specs.TourLaid.{suffix-in}
 use Rattle.lifting_runs.specs.IdsOnce.{phis-nodup}
 use Rattle.lifting_runs.specs.Shaped.{Shaped, depth, in-order, tree, visited-low, walk-is, walk-once}
@@ -203,7 +203,7 @@ module _ (F : Func) where
     unfolding nodeList
     node-low r {n} sf = all-in _ (regionOf F r .nodes) (all-line _ (λ (r : Region). r .nodes) (F .regions) (named .nodes-below) (record { ins = []; nodes = []; outs = [] }) refl r) n (suffix-in F sf here)
 
-    in-regions : {r : ℕ} {p : Place} → Visited F r p → In r (below (length (F .regions)))
+    in-regions : {r : ℕ} {p : Place} → VisitedAt F r p → In r (below (length (F .regions)))
     in-regions {r} v = in-below (length (F .regions)) r (visited-low F ok v)
 
     in-nodes : (r : ℕ) {n : ℕ} {ns : List ℕ} → Suffix (regionOf F r .nodes) (n ∷ ns) → In n (below (length (F .nodes)))
@@ -278,7 +278,7 @@ module _ (F : Func) where
     setKeys = gather nodeKeys (below (length (F .nodes)))
 
     -- each phi sets one of them, and no two the same
-    entry-keys : (r : ℕ) (p : Place) → Visited F r p → (v : Value) → In v (entryKeys F r p) → In v inKeys
+    entry-keys : (r : ℕ) (p : Place) → VisitedAt F r p → (v : Value) → In v (entryKeys F r p) → In v inKeys
     entry-keys zero top w v i = absurd (in-nil i)
     entry-keys (suc r) top w v i = in-gather (insKeys F) (in-regions w) i
     entry-keys r (inNode n) w v i = absurd (in-nil i)

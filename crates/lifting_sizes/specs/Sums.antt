@@ -8,8 +8,8 @@ use Prim.Native.Nat.{ℕ, suc, _+_, _*_, _≤_, _<_}
 use native.Mathlib.Nat.{mul-add, mul-one, mul-zero}
 use native.Mathlib.Omega.{arith}
 use lib.ListN.{getD, length, length-append}
-use Rattle.laws.specs.Lists.{below, choose, find, gather, keys}
-use Rattle.laws.specs.Members.{In, NoDup, here, in-cases, map-tabulate, tabulate-all, there}
+use Rattle.general_laws.specs.Lists.{below, choose, find, gather, keys}
+use Rattle.general_laws.specs.Members.{In, NoDup, here, in-cases, map-tabulate, tabulate-all, there}
 use Rattle.lifting_blocks.specs.Flat.{upTo}
 use Rattle.lifting_blocks.specs.FlatLaws.{upTo-cons}
 use Rattle.lifting_blocks.specs.Totals.{total, total-add, total-none, total-once}

@@ -2,7 +2,7 @@
 use mathlib.Core.List.{List, [], _∷_}
 use Prim.Native.Nat.{ℕ, zero, suc, _+_, _*_}
 use lib.ListN.{length}
-use Rattle.laws.specs.Lists.{find}
+use Rattle.general_laws.specs.Lists.{find}
 use Rattle.lifting.specs.Ast.{ControlInst, Func, Inst, Node, Op, Value, block, exit, loop, select}
 use Rattle.lifting.specs.Parts.{blockOps, childrenOf, ctrlInsts, ctrlOf, immediates, nodeInsts, nodeOf, opInsts, opOf, regionOf, targets, values, valsOr}
 use Rattle.lifting.specs.Limits.{maxDecls, maxImmediates, maxNodes, maxOps, maxParams, maxRegions, maxTargets, maxValues}

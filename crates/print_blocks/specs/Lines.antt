@@ -7,13 +7,13 @@ use mathlib.Core.List.{List, [], _∷_, _++_}
 use Prim.Native.Nat.{ℕ}
 use Rattle.lifting.specs.Bytes.{bytes}
 use Rattle.lifting.specs.Digits.{digits}
-use Rattle.laws.specs.Lists.{choose, gather}
+use Rattle.general_laws.specs.Lists.{choose, gather}
 use Rattle.lifting.specs.Ast.{Func}
 use Rattle.lifting.specs.Points.{CfgPoint, regionEntry, regionExit, nodeEntry, nodeExit, eqPoint, Terminator, BlockLifting, Table}
 use Rattle.lifting.specs.Walk.{walkOf}
 use Rattle.lifting.specs.Absorb.{mergeLabels, useCount, kept}
 use Rattle.lifting.specs.Answer.{Parsed, parsed, denied}
-use Rattle.lifting_blocks.specs.Flat.{glued}
+use Rattle.lifting_blocks.specs.Flat.{absorbsFirst}
 use Rattle.print_bytes.specs.Shown.{refusedBytes}
 use Rattle.print_bytes.specs.Lines.{fieldBytes}
 
@@ -32,7 +32,7 @@ module _ (c : CfgPoint → ℕ) where
   -- the first point, and as long as each absorbs the next one, those behind it
   unfoldable pub runOf : Table → List CfgPoint
   runOf [] = []
-  runOf (x ∷ T) = x .0 ∷ cond (glued c x T) (runOf T) []
+  runOf (x ∷ T) = x .0 ∷ cond (absorbsFirst c x T) (runOf T) []
 
   unfoldable pub runFrom : CfgPoint → Table → List CfgPoint
   runFrom p [] = []

@@ -15,15 +15,15 @@ use lib.ListN.{length, getD, drop}
 use borrow.Author.Tests.{lt-ltb, le-ltb}
 use Rattle.lifting.specs.Bytes.{bytes}
 use Rattle.lifting.specs.Digits.{digits}
-use Rattle.laws.specs.Lists.{choose-no, choose-yes, gather}
+use Rattle.general_laws.specs.Lists.{choose-no, choose-yes, gather}
 use Rattle.lifting.specs.Ast.{Func}
 use Rattle.lifting.specs.Points.{CfgPoint, regionEntry, regionExit, nodeEntry, nodeExit, eqPoint, Terminator, Table, points}
 use Rattle.lifting.specs.Walk.{walkOf}
 use Rattle.lifting.specs.Absorb.{useCount, kept}
-use Rattle.laws.specs.Gather.{gather-none}
-use Rattle.laws.specs.Members.{In, NoDup}
+use Rattle.general_laws.specs.Gather.{gather-none}
+use Rattle.general_laws.specs.Members.{In, NoDup}
 use Rattle.lifting_runs.specs.Shaped.{Shaped}
-use Rattle.lifting_blocks.specs.Flat.{Pass, Status, gone, starts, goes, glueAt, blockPart, blockParts, unlessGlued, part, partAt, upTo, noPair}
+use Rattle.lifting_blocks.specs.Flat.{Pass, Status, gone, starts, goes, absorbsHere, blockPart, blockParts, unlessAbsorbs, part, partAt, upTo, noPair}
 use Rattle.lifting_blocks.specs.Laws.{each-once, pass-is}
 use Rattle.walk_points.specs.Numbers.{nodeBase, pointNumber, pointOf, point-back, number-low, Small}
 use Rattle.terminators.specs.At.{pointAt, blockAt}
@@ -46,14 +46,14 @@ module _ (c : CfgPoint → ℕ) where
       let p = getD T i noPair .0 in
       choose-no (eqPoint p (x .0)) _ _ (λ e. once .0 (subst (λ (q : CfgPoint). In q (points T)) e (points-in T i (omega arith)))) ∙ run-at T i (once .1) (omega arith)
 
-  pub run-suc : (T : Table) (i : ℕ) → i < length T → runOf c (drop i T) ≡ getD T i noPair .0 ∷ cond (glueAt c T i) (runOf c (drop (suc i) T)) []
-  unfolding runOf glueAt
+  pub run-suc : (T : Table) (i : ℕ) → i < length T → runOf c (drop i T) ≡ getD T i noPair .0 ∷ cond (absorbsHere c T i) (runOf c (drop (suc i) T)) []
+  unfolding runOf absorbsHere
   run-suc [] i h = absurd (omega arith)
   run-suc (x ∷ T) zero h = refl
   run-suc (x ∷ T) (suc i) h = run-suc T i (omega arith)
 
-  pub run-next : (T : Table) (i : ℕ) → i < length T → runOf c (drop i T) ≡ getD T i noPair .0 ∷ cond (glueAt c T i) (runOf c (drop (i + 1) T)) []
-  run-next T i h = run-suc T i h ∙ ap (λ (n : ℕ). getD T i noPair .0 ∷ cond (glueAt c T i) (runOf c (drop n T)) []) (sym (add-one i))
+  pub run-next : (T : Table) (i : ℕ) → i < length T → runOf c (drop i T) ≡ getD T i noPair .0 ∷ cond (absorbsHere c T i) (runOf c (drop (i + 1) T)) []
+  run-next T i h = run-suc T i h ∙ ap (λ (n : ℕ). getD T i noPair .0 ∷ cond (absorbsHere c T i) (runOf c (drop n T)) []) (sym (add-one i))
 
   pub run-end : (T : Table) (i : ℕ) → length T ≤ i → runOf c (drop i T) ≡ []
   unfolding runOf
@@ -103,7 +103,7 @@ module _ (F : Func) where
   closeBytes true p t = []
   closeBytes false p t = endBytes F p t
 
-  by-glue : (g : Bool) (p : CfgPoint) (t : Terminator) (ops : List ℕ) → gather {B = ℕ} (λ (i : ℕ). []) ops ++ unlessGlued linePass g (endBytes F p t) ≡ closeBytes g p t
+  by-glue : (g : Bool) (p : CfgPoint) (t : Terminator) (ops : List ℕ) → gather {B = ℕ} (λ (i : ℕ). []) ops ++ unlessAbsorbs linePass g (endBytes F p t) ≡ closeBytes g p t
   by-glue true p t ops = ap (λ (l : List ℕ). l ++ []) (gather-none ops)
   by-glue false p t ops = ap (λ (l : List ℕ). l ++ endBytes F p t) (gather-none ops)
 

@@ -18,14 +18,14 @@ use lib.Dec.{eqb}
 use lib.ListN.{getD, length, drop, drop-of-length-le, replicate, length-replicate}
 use lib.Seq.{drop-cons}
 use borrow.Author.Tests.{eq-eqb, ne-eqb}
-use Rattle.laws.specs.Compare.{lower, higher}
+use Rattle.general_laws.specs.Compare.{lower, higher}
 use Rattle.lifting.specs.Ast.{Func, Region}
 use Rattle.lifting.specs.Points.{CfgPoint, regionEntry}
 use Rattle.lifting.specs.Walk.{walkOf}
 use Rattle.lifting.specs.Absorb.{mergeLabels, useCount, absorb, kept}
 use Rattle.lifting.specs.Answer.{Parsed, parsed, denied, zerosUnless8}
 use Rattle.func.specs.Decode.{funcOf}
-use Rattle.laws.specs.Members.{in-left, in-right, in-getD}
+use Rattle.general_laws.specs.Members.{in-left, in-right, in-getD}
 use Rattle.work.specs.Layout.{linesAt, childrenAt, pointsAt, usesAt, usesEnd}
 use Rattle.walk_points.specs.Numbers.{number-low, point-back, pointNumber, pointOf, Small}
 use Rattle.reader.specs.Parse.{workAfter}

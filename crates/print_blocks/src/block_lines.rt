@@ -20,7 +20,7 @@ ghost use Rattle.func.specs.Decode.{funcOf};
 ghost use Rattle.walk_points.specs.Numbers.{pointOf};
 ghost use Rattle.terminators.specs.At.{pointAt, blockAt};
 ghost use Rattle.blocks.specs.Absorbs.{absorbed};
-ghost use Rattle.print_bytes.specs.Put.{Put};
+ghost use Rattle.print_bytes.specs.Put.{PutBytes};
 ghost use Rattle.print_blocks.specs.Lines.{pointBytes, pointsBytes, startBytes, endBytes, linesOf};
 ghost use Rattle.print_blocks.specs.Positions.{beginBytes, lineAt, runAt, sideBytes};
 ghost use Rattle.print_blocks.specs.Stand.{Shows};
@@ -28,7 +28,7 @@ ghost use Rattle.print_blocks.specs.Stand.{Shows};
 // A point's name, after what it begins with: its region's or node's number, and `+` or `-`.
 fn put_side(out: &mut [u8], at: usize, kind: &[u8], x: usize) -> usize
     requires { ⌜ x < 512 ⌝ }
-    ensures { λ r. ⌜ Put (now (out .entry)) at (sideBytes (now (kind .entry)) x) (now (out .exit)) r ⌝ }
+    ensures { λ r. ⌜ PutBytes (now (out .entry)) at (sideBytes (now (kind .entry)) x) (now (out .exit)) r ⌝ }
 {
     let a = put_bytes(out, at, kind);
     let b = put_number(out, a, (x / 2) as u32);
@@ -41,7 +41,7 @@ fn put_side(out: &mut [u8], at: usize, kind: &[u8], x: usize) -> usize
 // A point, by its number.
 fn put_point(out: &mut [u8], at: usize, p: usize) -> usize
     requires { ⌜ p < 512 ⌝ }
-    ensures { λ r. ⌜ Put (now (out .entry)) at (pointBytes (pointOf p)) (now (out .exit)) r ⌝ }
+    ensures { λ r. ⌜ PutBytes (now (out .entry)) at (pointBytes (pointOf p)) (now (out .exit)) r ⌝ }
 {
     if p < NODE_BASE {
         return put_side(out, at, b" r", p);
@@ -53,7 +53,7 @@ fn put_point(out: &mut [u8], at: usize, p: usize) -> usize
 fn put_targets(func: &[u32], work: &[u32], m: usize, i: usize, out: &mut [u8], at: usize) -> usize
     requires { ⌜ Shows (now func) (now work) m ⌝ }
     requires { ⌜ i < m ⌝ }
-    ensures { λ r. ⌜ Put (now (out .entry)) at (pointsBytes (blockAt (funcOf (now (func .entry))) i .term .targets)) (now (out .exit)) r ⌝ }
+    ensures { λ r. ⌜ PutBytes (now (out .entry)) at (pointsBytes (blockAt (funcOf (now (func .entry))) i .term .targets)) (now (out .exit)) r ⌝ }
 {
     let n = target_count(func, work, m, i);
     let mut next = at;
@@ -69,7 +69,7 @@ fn put_targets(func: &[u32], work: &[u32], m: usize, i: usize, out: &mut [u8], a
 fn put_merge(func: &[u32], work: &[u32], m: usize, i: usize, out: &mut [u8], at: usize) -> usize
     requires { ⌜ Shows (now func) (now work) m ⌝ }
     requires { ⌜ i < m ⌝ }
-    ensures { λ r. ⌜ Put (now (out .entry)) at (pointsBytes (mergeLabels (blockAt (funcOf (now (func .entry))) i .term .merge))) (now (out .exit)) r ⌝ }
+    ensures { λ r. ⌜ PutBytes (now (out .entry)) at (pointsBytes (mergeLabels (blockAt (funcOf (now (func .entry))) i .term .merge))) (now (out .exit)) r ⌝ }
 {
     let n = merge_count(func, work, m, i);
     let mut next = at;
@@ -85,7 +85,7 @@ fn put_merge(func: &[u32], work: &[u32], m: usize, i: usize, out: &mut [u8], at:
 fn put_run(func: &[u32], work: &[u32], m: usize, i: usize, out: &mut [u8], at: usize) -> usize
     requires { ⌜ Shows (now func) (now work) m ⌝ }
     requires { ⌜ i < m ⌝ }
-    ensures { λ r. ⌜ Put (now (out .entry)) at (pointsBytes (runAt (funcOf (now (func .entry))) i)) (now (out .exit)) r ⌝ }
+    ensures { λ r. ⌜ PutBytes (now (out .entry)) at (pointsBytes (runAt (funcOf (now (func .entry))) i)) (now (out .exit)) r ⌝ }
 {
     let mut next = at;
     let mut more = true;
@@ -102,7 +102,7 @@ fn put_run(func: &[u32], work: &[u32], m: usize, i: usize, out: &mut [u8], at: u
 fn put_start(func: &[u32], work: &[u32], m: usize, i: usize, out: &mut [u8], at: usize) -> usize
     requires { ⌜ Shows (now func) (now work) m ⌝ }
     requires { ⌜ i < m ⌝ }
-    ensures { λ r. ⌜ Put (now (out .entry)) at (startBytes (funcOf (now (func .entry))) (pointAt (funcOf (now (func .entry))) i)) (now (out .exit)) r ⌝ }
+    ensures { λ r. ⌜ PutBytes (now (out .entry)) at (startBytes (funcOf (now (func .entry))) (pointAt (funcOf (now (func .entry))) i)) (now (out .exit)) r ⌝ }
 {
     let a = put_bytes(out, at, b"(block");
     let b = put_point(out, a, point(func, work, m, i));
@@ -114,7 +114,7 @@ fn put_start(func: &[u32], work: &[u32], m: usize, i: usize, out: &mut [u8], at:
 fn put_begin(func: &[u32], work: &[u32], m: usize, i: usize, out: &mut [u8], at: usize) -> usize
     requires { ⌜ Shows (now func) (now work) m ⌝ }
     requires { ⌜ i < m ⌝ }
-    ensures { λ r. ⌜ Put (now (out .entry)) at (beginBytes (funcOf (now (func .entry))) (absorbed (funcOf (now (func .entry))) i) (pointAt (funcOf (now (func .entry))) i)) (now (out .exit)) r ⌝ }
+    ensures { λ r. ⌜ PutBytes (now (out .entry)) at (beginBytes (funcOf (now (func .entry))) (absorbed (funcOf (now (func .entry))) i) (pointAt (funcOf (now (func .entry))) i)) (now (out .exit)) r ⌝ }
 {
     if joined(func, work, m, i) {
         return at;
@@ -134,7 +134,7 @@ fn put_end(
 ) -> usize
     requires { ⌜ Shows (now func) (now work) m ⌝ }
     requires { ⌜ (h < 512) × (i < m) ⌝ }
-    ensures { λ r. ⌜ Put (now (out .entry)) at (endBytes (funcOf (now (func .entry))) (pointOf h) (blockAt (funcOf (now (func .entry))) i .term)) (now (out .exit)) r ⌝ }
+    ensures { λ r. ⌜ PutBytes (now (out .entry)) at (endBytes (funcOf (now (func .entry))) (pointOf h) (blockAt (funcOf (now (func .entry))) i .term)) (now (out .exit)) r ⌝ }
 {
     let a = put_bytes(out, at, b") (uses");
     let b = put_field(out, a, uses(func, work, m, h));
@@ -149,7 +149,7 @@ fn put_end(
 fn put_position(func: &[u32], work: &[u32], m: usize, i: usize, out: &mut [u8], at: usize) -> usize
     requires { ⌜ Shows (now func) (now work) m ⌝ }
     requires { ⌜ i < m ⌝ }
-    ensures { λ r. ⌜ Put (now (out .entry)) at (lineAt (funcOf (now (func .entry))) i) (now (out .exit)) r ⌝ }
+    ensures { λ r. ⌜ PutBytes (now (out .entry)) at (lineAt (funcOf (now (func .entry))) i) (now (out .exit)) r ⌝ }
 {
     let s = status(func, work, m, i);
     if s == 0 {
@@ -165,7 +165,7 @@ fn put_position(func: &[u32], work: &[u32], m: usize, i: usize, out: &mut [u8], 
 // The lines of the function.
 pub fn put_lines(func: &[u32], work: &[u32], m: usize, out: &mut [u8]) -> usize
     requires { ⌜ Shows (now func) (now work) m ⌝ }
-    ensures { λ r. ⌜ Put (now (out .entry)) 0 (linesOf (funcOf (now (func .entry)))) (now (out .exit)) r ⌝ }
+    ensures { λ r. ⌜ PutBytes (now (out .entry)) 0 (linesOf (funcOf (now (func .entry)))) (now (out .exit)) r ⌝ }
 {
     let mut at: usize = 0;
     let mut i = 0;

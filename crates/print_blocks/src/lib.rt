@@ -15,7 +15,7 @@ ghost use Rattle.func.specs.Decode.{funcOf};
 ghost use Rattle.work.specs.Layout.{workNeed};
 ghost use Rattle.check_text.specs.Same.{Stands};
 ghost use Rattle.reader.specs.Parse.{funcAfter};
-ghost use Rattle.print_bytes.specs.Put.{Put};
+ghost use Rattle.print_bytes.specs.Put.{PutBytes};
 ghost use Rattle.print_blocks.specs.Lines.{linesOf, blocksBytes};
 ghost use Rattle.print_blocks.specs.Stand.{LaidOut, WorkAfter};
 
@@ -23,7 +23,7 @@ ghost use Rattle.print_blocks.specs.Stand.{LaidOut, WorkAfter};
 fn put_function(func: &[u32], work: &mut [u32], out: &mut [u8]) -> usize
     requires { ⌜ Stands (funcOf (now func)) (now func) ⌝ }
     requires { ⌜ (workNeed ≤ length (now work)) × (now work ≡ replicate (length (now work)) 0) ⌝ }
-    ensures { λ r. ⌜ Put (now (out .entry)) 0 (linesOf (funcOf (now (func .entry)))) (now (out .exit)) r ⌝ }
+    ensures { λ r. ⌜ PutBytes (now (out .entry)) 0 (linesOf (funcOf (now (func .entry)))) (now (out .exit)) r ⌝ }
     ensures { λ _. ⌜ LaidOut (funcOf (now (func .entry))) (funcOf (now (func .entry)) .regions) (now (work .entry)) (now (work .exit)) ⌝ }
 {
     if region_total(func) == 0 {
@@ -35,7 +35,7 @@ fn put_function(func: &[u32], work: &mut [u32], out: &mut [u8]) -> usize
 
 // The lines of a text, or its refusal's.
 pub fn put_answer(text: &[u8], func: &mut [u32], work: &mut [u32], out: &mut [u8]) -> usize
-    ensures { λ r. ⌜ Put (now (out .entry)) 0 (blocksBytes (parse (now (text .entry)) (length (now (func .entry))) (length (now (work .entry))))) (now (out .exit)) r ⌝ }
+    ensures { λ r. ⌜ PutBytes (now (out .entry)) 0 (blocksBytes (parse (now (text .entry)) (length (now (func .entry))) (length (now (work .entry))))) (now (out .exit)) r ⌝ }
     ensures { λ _. ⌜ now (func .exit) ≡ funcAfter (parse (now (text .entry)) (length (now (func .entry))) (length (now (work .entry)))) (now (func .entry)) ⌝ }
     ensures { λ _. ⌜ WorkAfter (parse (now (text .entry)) (length (now (func .entry))) (length (now (work .entry)))) (now (work .entry)) (now (work .exit)) ⌝ }
 {

@@ -1,6 +1,6 @@
 -- Bytes appended to a slice at a place. A byte past the slice's end is counted and not stored, and a place stays at the largest number
 -- of 64 bits. Assumes nothing.
---     Put                         bytes put at a place: the whole slice at exit, and the next place
+--     PutBytes                         bytes put at a place: the whole slice at exit, and the next place
 --     put-none, put-one           no bytes; one byte
 --     put-more, put-same          one run of bytes after another; the same bytes, written otherwise
 --     Part                        of some bytes a first part is put, and these are left
@@ -18,7 +18,7 @@ use lib.Dec.{leb}
 use lib.ListN.{length, set, take, drop, length-append, length-set}
 use lib.Seq.{sets, sets-eq, set-out, length-sets, take-append-seam}
 use borrow.Author.Tests.{leb-true, leb-false}
-use Rattle.laws.specs.Part.{sets-sets}
+use Rattle.general_laws.specs.Part.{sets-sets}
 
 -- the largest number of 64 bits
 abbrev pub limit : ℕ
@@ -29,7 +29,7 @@ abbrev pub sat : ℕ → ℕ
 sat n = n - (n - limit)
 
 -- the bytes l put into the slice w at the place `at`: the slice is then `out`, and the place behind them `next`
-pub record Put (w : List ℕ) (at : ℕ) (l : List ℕ) (out : List ℕ) (next : ℕ) : Type 0 where
+pub record PutBytes (w : List ℕ) (at : ℕ) (l : List ℕ) (out : List ℕ) (next : ℕ) : Type 0 where
   pub size : length w ≤ limit
   pub stored : out ≡ sets w at l
   pub place : next ≡ sat (at + length l)
@@ -56,13 +56,13 @@ sets-sat w xs ys a h =
     ∙ sets-sets w xs ys a)
     (le-or (a + length xs) limit)
 
-pub put-none : {w : List ℕ} {at : ℕ} → length w ≤ limit → at ≤ limit → Put w at [] w at
+pub put-none : {w : List ℕ} {at : ℕ} → length w ≤ limit → at ≤ limit → PutBytes w at [] w at
 put-none h k = record { size = h; stored = refl; place = omega arith }
 
-pub put-one : {w out : List ℕ} {at next : ℕ} (b : ℕ) → length w ≤ limit → out ≡ set w at b → next ≡ sat (at + 1) → Put w at (b ∷ []) out next
+pub put-one : {w out : List ℕ} {at next : ℕ} (b : ℕ) → length w ≤ limit → out ≡ set w at b → next ≡ sat (at + 1) → PutBytes w at (b ∷ []) out next
 put-one b h e n = record { size = h; stored = e; place = n }
 
-pub put-more : {w u v : List ℕ} {a b c : ℕ} {k l : List ℕ} → Put w a k u b → Put u b l v c → Put w a (k ++ l) v c
+pub put-more : {w u v : List ℕ} {a b c : ℕ} {k l : List ℕ} → PutBytes w a k u b → PutBytes u b l v c → PutBytes w a (k ++ l) v c
 put-more {w} {u} {v} {a} {b} {c} {k} {l} p q =
     record {
       size = p .size;
@@ -73,28 +73,28 @@ put-more {w} {u} {v} {a} {b} {c} {k} {l} p q =
       place = omega (arith, p .place, q .place, length-append k l);
     }
 
-pub put-same : {w u : List ℕ} {a b : ℕ} {k l : List ℕ} → Put w a k u b → k ≡ l → Put w a l u b
-put-same {w} {u} {a} {b} p e = subst (λ (x : List ℕ). Put w a x u b) e p
+pub put-same : {w u : List ℕ} {a b : ℕ} {k l : List ℕ} → PutBytes w a k u b → k ≡ l → PutBytes w a l u b
+put-same {w} {u} {a} {b} p e = subst (λ (x : List ℕ). PutBytes w a x u b) e p
 
 -- bytes from the start on, of which there are at most k
-pub put-low : {w out : List ℕ} {next k : ℕ} {l : List ℕ} → Put w 0 l out next → length l ≤ k → next ≤ k
+pub put-low : {w out : List ℕ} {next k : ℕ} {l : List ℕ} → PutBytes w 0 l out next → length l ≤ k → next ≤ k
 put-low p h = omega (arith, p .place)
 
 -- the slice keeps its length
-pub put-length : {w out : List ℕ} {at next : ℕ} {l : List ℕ} → Put w at l out next → length out ≡ length w
+pub put-length : {w out : List ℕ} {at next : ℕ} {l : List ℕ} → PutBytes w at l out next → length out ≡ length w
 put-length {w} {at = at} {l = l} p = ap length (p .stored) ∙ length-sets w at l
 
 -- of the bytes l, from the place a of the slice w on, a first part has been put, and the bytes `left` are to follow
 pub record Part (w : List ℕ) (a : ℕ) (l : List ℕ) (u : List ℕ) (b : ℕ) (left : List ℕ) : Type 0 where
   pub done : List ℕ
-  pub put : Put w a done u b
+  pub put : PutBytes w a done u b
   pub whole : done ++ left ≡ l
 
 pub part-start : {w : List ℕ} {a : ℕ} (l : List ℕ) → length w ≤ limit → a ≤ limit → Part w a l w a l
 part-start l h k = record { done = []; put = put-none h k; whole = refl }
 
 module _ {w u v l : List ℕ} {a b c : ℕ} {left : List ℕ} where
-  pub part-more : {k r : List ℕ} → Part w a l u b left → Put u b k v c → left ≡ k ++ r → Part w a l v c r
+  pub part-more : {k r : List ℕ} → Part w a l u b left → PutBytes u b k v c → left ≡ k ++ r → Part w a l v c r
   part-more {k} {r} p q e =
       record {
         done = p .done ++ k;
@@ -102,10 +102,10 @@ module _ {w u v l : List ℕ} {a b c : ℕ} {left : List ℕ} where
         whole = append-assoc (p .done) k r ∙ ap (λ (x : List ℕ). p .done ++ x) (sym e) ∙ p .whole;
       }
 
-pub part-done : {w u l : List ℕ} {a b : ℕ} {left : List ℕ} → Part w a l u b left → left ≡ [] → Put w a l u b
+pub part-done : {w u l : List ℕ} {a b : ℕ} {left : List ℕ} → Part w a l u b left → left ≡ [] → PutBytes w a l u b
 part-done p e = put-same (p .put) (sym (append-nil (p .done)) ∙ ap (λ (x : List ℕ). p .done ++ x) (sym e) ∙ p .whole)
 
 -- bytes that were put at the front of a slice with room for them
-pub put-fits : {w out : List ℕ} {next : ℕ} {l : List ℕ} → Put w 0 l out next → length l ≤ length w → (next ≡ length l) × (take (length l) out ≡ l)
+pub put-fits : {w out : List ℕ} {next : ℕ} {l : List ℕ} → PutBytes w 0 l out next → length l ≤ length w → (next ≡ length l) × (take (length l) out ≡ l)
 put-fits {w} {out} {next} {l} p h =
     (omega (arith, p .place, p .size), ap (take (length l)) (p .stored ∙ sets-eq l w 0 (omega arith)) ∙ take-append-seam l (drop (0 + length l) w))

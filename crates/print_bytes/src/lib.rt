@@ -5,7 +5,7 @@ ghost use mathlib.Core.List.{[], _∷_};
 ghost use Prim.Native.Nat.{_+_};
 ghost use lib.ListN.{set};
 ghost use Rattle.lifting.specs.Digits.{digits};
-ghost use Rattle.print_bytes.specs.Put.{Put, sat};
+ghost use Rattle.print_bytes.specs.Put.{PutBytes, sat};
 ghost use Rattle.print_bytes.specs.Lines.{fieldBytes};
 
 const LIMIT: usize = 18446744073709551615;
@@ -27,14 +27,14 @@ fn store(out: &mut [u8], at: usize, b: u8)
 }
 
 pub fn put_byte(out: &mut [u8], at: usize, b: u8) -> usize
-    ensures { λ r. ⌜ Put (now (out .entry)) at (b ∷ []) (now (out .exit)) r ⌝ }
+    ensures { λ r. ⌜ PutBytes (now (out .entry)) at (b ∷ []) (now (out .exit)) r ⌝ }
 {
     store(out, at, b);
     after(at)
 }
 
 pub fn put_bytes(out: &mut [u8], at: usize, s: &[u8]) -> usize
-    ensures { λ r. ⌜ Put (now (out .entry)) at (now (s .entry)) (now (out .exit)) r ⌝ }
+    ensures { λ r. ⌜ PutBytes (now (out .entry)) at (now (s .entry)) (now (out .exit)) r ⌝ }
 {
     let mut next = at;
     let mut i: usize = 0;
@@ -47,7 +47,7 @@ pub fn put_bytes(out: &mut [u8], at: usize, s: &[u8]) -> usize
 
 // A number in base ten: the digits of its tenth, and its last one.
 pub fn put_number(out: &mut [u8], at: usize, n: u32) -> usize
-    ensures { λ r. ⌜ Put (now (out .entry)) at (digits n) (now (out .exit)) r ⌝ }
+    ensures { λ r. ⌜ PutBytes (now (out .entry)) at (digits n) (now (out .exit)) r ⌝ }
 {
     if n < 10 {
         return put_byte(out, at, (48 + n) as u8);
@@ -58,7 +58,7 @@ pub fn put_number(out: &mut [u8], at: usize, n: u32) -> usize
 
 // A number after a space.
 pub fn put_field(out: &mut [u8], at: usize, n: u32) -> usize
-    ensures { λ r. ⌜ Put (now (out .entry)) at (fieldBytes n) (now (out .exit)) r ⌝ }
+    ensures { λ r. ⌜ PutBytes (now (out .entry)) at (fieldBytes n) (now (out .exit)) r ⌝ }
 {
     let next = put_byte(out, at, b' ');
     put_number(out, next, n)

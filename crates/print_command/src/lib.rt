@@ -7,7 +7,7 @@ use print_read::put_read;
 ghost use mathlib.Core.List.{_++_};
 ghost use lib.ListN.{length};
 ghost use Rattle.lifting.specs.Bytes.{bytes};
-ghost use Rattle.print_bytes.specs.Put.{Put};
+ghost use Rattle.print_bytes.specs.Put.{PutBytes};
 ghost use Rattle.print_command.specs.Printed.{caseBytes, commandBytes, printedFor};
 
 // By the command, with slices that the caller lends.
@@ -19,7 +19,7 @@ fn put_of(
     work: &mut [u32],
     words: &mut [u32],
 ) -> usize
-    ensures { λ n. ⌜ Put (now (out .entry)) 0 (commandBytes command (now (input .entry)) (length (now (func .entry))) (length (now (work .entry))) (length (now (words .entry)))) (now (out .exit)) n ⌝ }
+    ensures { λ n. ⌜ PutBytes (now (out .entry)) 0 (commandBytes command (now (input .entry)) (length (now (func .entry))) (length (now (work .entry))) (length (now (words .entry)))) (now (out .exit)) n ⌝ }
 {
     match command {
         Command::Lift => put_input(out, input, func, work, words),
@@ -36,7 +36,7 @@ fn put_of(
 
 // The bytes that a command prints for an input stand in `out`: how many. Those for which there is no room are counted, not stored.
 pub fn put(command: Command, out: &mut [u8], input: &[u8]) -> usize
-    ensures printed { λ n. ⌜ Put (now (out .entry)) 0 (printedFor command (now (input .entry))) (now (out .exit)) n ⌝ }
+    ensures printed { λ n. ⌜ PutBytes (now (out .entry)) 0 (printedFor command (now (input .entry))) (now (out .exit)) n ⌝ }
 {
     let mut func = [0u32; 16384];
     let mut work = [0u32; 16384];
@@ -46,7 +46,7 @@ pub fn put(command: Command, out: &mut [u8], input: &[u8]) -> usize
 
 // Those of a stored case, whose first line names its command, and the line that ends them.
 pub fn put_case(out: &mut [u8], case: &[u8]) -> usize
-    ensures printed { λ n. ⌜ Put (now (out .entry)) 0 (caseBytes (now (case .entry)) ++ bytes "%%\n") (now (out .exit)) n ⌝ }
+    ensures printed { λ n. ⌜ PutBytes (now (out .entry)) 0 (caseBytes (now (case .entry)) ++ bytes "%%\n") (now (out .exit)) n ⌝ }
 {
     let opened = command::opened(case);
     let command = opened.command;

@@ -77,9 +77,9 @@ abbrev pub liftedBytes : Lifted → List ℕ → List ℕ
 liftedBytes (Whole n next) out = listBytes (listFrom (take n out))
 liftedBytes (Refused r n) out = refusedBytes (refusalNumber r)
 
-abbrev pub Stands : Lifted → List ℕ → Type 0
-Stands (Whole n next) out = n ≤ length out
-Stands (Refused r n) out = Unit {0}
+abbrev pub InputStands : Lifted → List ℕ → Type 0
+InputStands (Whole n next) out = n ≤ length out
+InputStands (Refused r n) out = Unit {0}
 
 refused-of : (a : Answer) (n : ℕ) → refuses n ≡ outcome a → a ≡ refused n
 refused-of (listed ws k) n e = absurd (let z : _≡_ {A = ℕ} 0 1 = cc in omega arith)
@@ -95,7 +95,7 @@ module _ (text func work out exit : List ℕ) (first : ℕ) where
       ap (λ (ws : List ℕ). listBytes (listFrom ws)) (l .2) ∙ sym (ap answerBytes (l .1))
   lifted-bytes (Refused r n) says stands = sym (ap answerBytes (refused-of given (refusalNumber r) says))
 
-  pub lifted-stands : (r : Lifted) → told r ≡ outcome given → exit ≡ outAfter given out → Stands r exit
+  pub lifted-stands : (r : Lifted) → told r ≡ outcome given → exit ≡ outAfter given out → InputStands r exit
   lifted-stands (Whole n next) says stands = written-low text func work out exit first n next says stands
   lifted-stands (Refused r n) says stands = tt
 

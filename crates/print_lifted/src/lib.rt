@@ -11,14 +11,14 @@ ghost use Prim.Native.Nat.{_+_, _*_, _≤_};
 ghost use lib.ListN.{length};
 ghost use mathlib.Core.Path.{_≡_};
 ghost use Rattle.lifting.specs.Answer.{outAfter, scratchAfter};
-ghost use Rattle.lifter.specs.Lift.{answerTo};
-ghost use Rattle.print_bytes.specs.Put.{Put};
-ghost use Rattle.print_lifted.specs.Input.{Stands, answerBytes, inputBytes, inputLeaves, liftedBytes};
+ghost use Rattle.lifter.specs.Entry.{answerTo};
+ghost use Rattle.print_bytes.specs.Put.{PutBytes};
+ghost use Rattle.print_lifted.specs.Input.{InputStands, answerBytes, inputBytes, inputLeaves, liftedBytes};
 
 // The lines of the list in the output slice, or the refusal's line.
 fn put_lifted(bytes: &mut [u8], r: Lifted, out: &[u32]) -> usize
-    requires { ⌜ Stands r (now out) ⌝ }
-    ensures { λ n. ⌜ Put (now (bytes .entry)) 0 (liftedBytes r (now (out .entry))) (now (bytes .exit)) n ⌝ }
+    requires { ⌜ InputStands r (now out) ⌝ }
+    ensures { λ n. ⌜ PutBytes (now (bytes .entry)) 0 (liftedBytes r (now (out .entry))) (now (bytes .exit)) n ⌝ }
 {
     match r {
         Lifted::Whole(n, _) => list(&out[..n], bytes),
@@ -35,7 +35,7 @@ fn put_text(
     work: &mut [u32],
     out: &mut [u32],
 ) -> usize
-    ensures { λ n. ⌜ Put (now (bytes .entry)) 0 (answerBytes (answerTo (now (text .entry)) first (now (func .entry)) (now (work .entry)) (now (out .entry)))) (now (bytes .exit)) n ⌝ }
+    ensures { λ n. ⌜ PutBytes (now (bytes .entry)) 0 (answerBytes (answerTo (now (text .entry)) first (now (func .entry)) (now (work .entry)) (now (out .entry)))) (now (bytes .exit)) n ⌝ }
     ensures { λ _. ⌜ now (func .exit) ≡ scratchAfter (answerTo (now (text .entry)) first (now (func .entry)) (now (work .entry)) (now (out .entry))) (now (func .entry)) ⌝ }
     ensures { λ _. ⌜ now (work .exit) ≡ scratchAfter (answerTo (now (text .entry)) first (now (func .entry)) (now (work .entry)) (now (out .entry))) (now (work .entry)) ⌝ }
     ensures { λ _. ⌜ now (out .exit) ≡ outAfter (answerTo (now (text .entry)) first (now (func .entry)) (now (work .entry)) (now (out .entry))) (now (out .entry)) ⌝ }
@@ -52,7 +52,7 @@ pub fn put_input(
     work: &mut [u32],
     out: &mut [u32],
 ) -> usize
-    ensures printed { λ n. ⌜ Put (now (bytes .entry)) 0 (inputBytes (now (input .entry)) (length (now (func .entry))) (length (now (work .entry))) (length (now (out .entry)))) (now (bytes .exit)) n ⌝ }
+    ensures printed { λ n. ⌜ PutBytes (now (bytes .entry)) 0 (inputBytes (now (input .entry)) (length (now (func .entry))) (length (now (work .entry))) (length (now (out .entry)))) (now (bytes .exit)) n ⌝ }
     ensures count { λ n. ⌜ n ≤ 12 * length (now (out .entry)) + 21 ⌝ }
     ensures func_slice { λ _. ⌜ now (func .exit) ≡ inputLeaves scratchAfter (now (input .entry)) (length (now (func .entry))) (length (now (work .entry))) (length (now (out .entry))) (now (func .entry)) ⌝ }
     ensures work_slice { λ _. ⌜ now (work .exit) ≡ inputLeaves scratchAfter (now (input .entry)) (length (now (func .entry))) (length (now (work .entry))) (length (now (out .entry))) (now (work .entry)) ⌝ }

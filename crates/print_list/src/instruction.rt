@@ -7,7 +7,7 @@ ghost use mathlib.Core.Path.{_≡_};
 ghost use Prim.Native.Nat.{_+_, _<_};
 ghost use lib.ListN.{length, getD, take, drop};
 ghost use Rattle.lifting.specs.Words.{immsFrom, instFrom};
-ghost use Rattle.print_bytes.specs.Put.{Put};
+ghost use Rattle.print_bytes.specs.Put.{PutBytes};
 ghost use Rattle.print_bytes.specs.Shown.{instBytes};
 ghost use Rattle.print_bytes.specs.Lines.{immBytes, immsBytes, idsBytes, headBytes, immFormBytes, idFormBytes};
 ghost use Rattle.print_bytes.specs.Taken.{immOf, headFrom, instSize, Next};
@@ -50,7 +50,7 @@ fn rest(words: &[u32], n: usize) -> &[u32]
 
 // `(OPCODE ATTRS TYPE RESULT`.
 fn put_head(out: &mut [u8], at: usize, opcode: u32, attrs: u32, ty: u32, result: u32) -> usize
-    ensures { λ r. ⌜ Put (now (out .entry)) at (headBytes opcode attrs ty result) (now (out .exit)) r ⌝ }
+    ensures { λ r. ⌜ PutBytes (now (out .entry)) at (headBytes opcode attrs ty result) (now (out .exit)) r ⌝ }
 {
     let a = put_byte(out, at, b'(');
     let b = put_number(out, a, opcode);
@@ -61,7 +61,7 @@ fn put_head(out: &mut [u8], at: usize, opcode: u32, attrs: u32, ty: u32, result:
 
 // ` (KIND OPERANDKIND WORD)`.
 fn put_imm(out: &mut [u8], at: usize, kind: u32, operand: u32, word: u32) -> usize
-    ensures { λ r. ⌜ Put (now (out .entry)) at (immBytes (immOf kind operand word)) (now (out .exit)) r ⌝ }
+    ensures { λ r. ⌜ PutBytes (now (out .entry)) at (immBytes (immOf kind operand word)) (now (out .exit)) r ⌝ }
 {
     let a = put_bytes(out, at, b" (");
     let b = put_number(out, a, kind);
@@ -72,7 +72,7 @@ fn put_imm(out: &mut [u8], at: usize, kind: u32, operand: u32, word: u32) -> usi
 
 // The first n immediates of these words.
 fn put_imms(out: &mut [u8], at: usize, words: &[u32], n: u32) -> usize
-    ensures { λ r. ⌜ Put (now (out .entry)) at (immsBytes (immsFrom n (now (words .entry)) .got)) (now (out .exit)) r ⌝ }
+    ensures { λ r. ⌜ PutBytes (now (out .entry)) at (immsBytes (immsFrom n (now (words .entry)) .got)) (now (out .exit)) r ⌝ }
 {
     let mut next = at;
     let mut left = n;
@@ -87,7 +87,7 @@ fn put_imms(out: &mut [u8], at: usize, words: &[u32], n: u32) -> usize
 
 // Each of these words after a space.
 fn put_ids(out: &mut [u8], at: usize, words: &[u32]) -> usize
-    ensures { λ r. ⌜ Put (now (out .entry)) at (idsBytes (now (words .entry))) (now (out .exit)) r ⌝ }
+    ensures { λ r. ⌜ PutBytes (now (out .entry)) at (idsBytes (now (words .entry))) (now (out .exit)) r ⌝ }
 {
     let mut next = at;
     let mut i: usize = 0;
@@ -100,7 +100,7 @@ fn put_ids(out: &mut [u8], at: usize, words: &[u32]) -> usize
 
 // ` (imms ..)` of the instruction whose words stand at the front of these.
 fn put_imm_form(out: &mut [u8], at: usize, words: &[u32]) -> usize
-    ensures { λ r. ⌜ Put (now (out .entry)) at (immFormBytes (instFrom (now (words .entry)) .got .imms)) (now (out .exit)) r ⌝ }
+    ensures { λ r. ⌜ PutBytes (now (out .entry)) at (immFormBytes (instFrom (now (words .entry)) .got .imms)) (now (out .exit)) r ⌝ }
 {
     let a = put_bytes(out, at, b" (imms");
     let b = put_imms(out, a, rest(words, 5), word(words, 4));
@@ -109,7 +109,7 @@ fn put_imm_form(out: &mut [u8], at: usize, words: &[u32]) -> usize
 
 // ` (ids ..)` of that instruction.
 fn put_id_form(out: &mut [u8], at: usize, words: &[u32]) -> usize
-    ensures { λ r. ⌜ Put (now (out .entry)) at (idFormBytes (instFrom (now (words .entry)) .got .ids)) (now (out .exit)) r ⌝ }
+    ensures { λ r. ⌜ PutBytes (now (out .entry)) at (idFormBytes (instFrom (now (words .entry)) .got .ids)) (now (out .exit)) r ⌝ }
 {
     let imms = wide(word(words, 4));
     let ids = wide(word(words, 5 + 3 * imms));
@@ -120,7 +120,7 @@ fn put_id_form(out: &mut [u8], at: usize, words: &[u32]) -> usize
 
 // `(OPCODE ATTRS TYPE RESULT` of that instruction.
 fn put_front(out: &mut [u8], at: usize, words: &[u32]) -> usize
-    ensures { λ r. ⌜ Put (now (out .entry)) at (headFrom (now (words .entry))) (now (out .exit)) r ⌝ }
+    ensures { λ r. ⌜ PutBytes (now (out .entry)) at (headFrom (now (words .entry))) (now (out .exit)) r ⌝ }
 {
     put_head(
         out,
@@ -134,7 +134,7 @@ fn put_front(out: &mut [u8], at: usize, words: &[u32]) -> usize
 
 // The line of that instruction.
 pub fn put_inst(out: &mut [u8], at: usize, words: &[u32]) -> usize
-    ensures { λ r. ⌜ Put (now (out .entry)) at (instBytes (instFrom (now (words .entry)) .got)) (now (out .exit)) r ⌝ }
+    ensures { λ r. ⌜ PutBytes (now (out .entry)) at (instBytes (instFrom (now (words .entry)) .got)) (now (out .exit)) r ⌝ }
 {
     let a = put_front(out, at, words);
     let b = put_imm_form(out, a, words);

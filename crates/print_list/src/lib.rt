@@ -11,7 +11,7 @@ use read_cursor::NumberRead;
 use read_cursor::Step;
 ghost use Rattle.lifting.specs.Words.{listFrom};
 ghost use Rattle.read_cursor.specs.Read.{Reads};
-ghost use Rattle.print_bytes.specs.Put.{Put};
+ghost use Rattle.print_bytes.specs.Put.{PutBytes};
 ghost use Rattle.print_bytes.specs.Shown.{listBytes, refusedBytes};
 ghost use Rattle.print_list.specs.Opening.{firstLine, firstOf};
 
@@ -23,7 +23,7 @@ pub enum First {
 
 // The lines of the instructions whose words these are.
 pub fn list(words: &[u32], out: &mut [u8]) -> usize
-    ensures { λ r. ⌜ Put (now (out .entry)) 0 (listBytes (listFrom (now (words .entry)))) (now (out .exit)) r ⌝ }
+    ensures { λ r. ⌜ PutBytes (now (out .entry)) 0 (listBytes (listFrom (now (words .entry)))) (now (out .exit)) r ⌝ }
 {
     let mut at: usize = 0;
     let mut from: usize = 0;
@@ -36,7 +36,7 @@ pub fn list(words: &[u32], out: &mut [u8]) -> usize
 
 // The line of a refusal.
 pub fn refused(n: u32, out: &mut [u8]) -> usize
-    ensures { λ r. ⌜ Put (now (out .entry)) 0 (refusedBytes n) (now (out .exit)) r ⌝ }
+    ensures { λ r. ⌜ PutBytes (now (out .entry)) 0 (refusedBytes n) (now (out .exit)) r ⌝ }
 {
     let a = put_bytes(out, 0, b"(refused");
     let b = put_field(out, a, n);

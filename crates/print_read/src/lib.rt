@@ -8,12 +8,12 @@ ghost use mathlib.Core.Path.{_≡_};
 ghost use lib.ListN.{length};
 ghost use Rattle.lifting.specs.Answer.{parse};
 ghost use Rattle.reader.specs.Parse.{funcAfter, workAfter};
-ghost use Rattle.print_bytes.specs.Put.{Put};
+ghost use Rattle.print_bytes.specs.Put.{PutBytes};
 ghost use Rattle.print_read.specs.Line.{lineOf, readBytes};
 
 // The bytes of the line for an answer stand in `bytes`: how many.
 fn put_line(bytes: &mut [u8], parsed: Parsed) -> usize
-    ensures { λ n. ⌜ Put (now (bytes .entry)) 0 (lineOf parsed) (now (bytes .exit)) n ⌝ }
+    ensures { λ n. ⌜ PutBytes (now (bytes .entry)) 0 (lineOf parsed) (now (bytes .exit)) n ⌝ }
 {
     match parsed {
         Parsed::Function => put_bytes(bytes, 0, b"accepted\n"),
@@ -26,7 +26,7 @@ fn put_line(bytes: &mut [u8], parsed: Parsed) -> usize
 
 // The bytes of the line for a text stand in `bytes`: how many.
 pub fn put_read(bytes: &mut [u8], text: &[u8], func: &mut [u32], work: &mut [u32]) -> usize
-    ensures printed { λ n. ⌜ Put (now (bytes .entry)) 0 (readBytes (parse (now (text .entry)) (length (now (func .entry))) (length (now (work .entry))))) (now (bytes .exit)) n ⌝ }
+    ensures printed { λ n. ⌜ PutBytes (now (bytes .entry)) 0 (readBytes (parse (now (text .entry)) (length (now (func .entry))) (length (now (work .entry))))) (now (bytes .exit)) n ⌝ }
     ensures func_slice { λ _. ⌜ now (func .exit) ≡ funcAfter (parse (now (text .entry)) (length (now (func .entry))) (length (now (work .entry)))) (now (func .entry)) ⌝ }
     ensures work_slice { λ _. ⌜ now (work .exit) ≡ workAfter (parse (now (text .entry)) (length (now (func .entry))) (length (now (work .entry)))) (now (work .entry)) ⌝ }
 {

@@ -14,21 +14,21 @@ use lib.Dec.{eqb}
 use lib.ListN.{length, set, take, drop, length-set, drop-of-length-le, length-drop, take-append-drop}
 use lib.Seq.{paste, sets, sets-eq, length-take-le, length-sets, drop-drop}
 use borrow.Author.Tests.{eqb-true, eqb-false, ne-eqb}
-use Rattle.laws.specs.Part.{sets-sets}
+use Rattle.general_laws.specs.Part.{sets-sets}
 use Rattle.print_bytes.specs.Put.{sets-out, le-or}
 use Rattle.read_cases.specs.Cut.{matchedAfter, cutOf, cut-more, fitting}
 use Rattle.read_cases.specs.declared.State.{State}
 
 -- the room for a text, how many of its bytes are held, and how many bytes of "\n%%\n" they end with
-pub record Held : Type 0 where
+pub record HeldCase : Type 0 where
   pub text : List ℕ
   pub len : ℕ
   pub matched : ℕ
 
-abbrev pub held : List ℕ → ℕ → ℕ → Held
+abbrev pub held : List ℕ → ℕ → ℕ → HeldCase
 held text len matched = record { text = text; len = len; matched = matched }
 
-abbrev pub heldOf : List ℕ → State → Held
+abbrev pub heldOf : List ℕ → State → HeldCase
 heldOf text s = held text (s .len) (s .matched)
 
 -- what was taken of the bytes read, from one place to another
@@ -45,16 +45,16 @@ pub record Within (buffer text : ℕ) (s : State) : Type 0 where
 unfoldable pub lenAfter : ℕ → ℕ → ℕ
 lenAfter matched len = cond (eqb matched 4) 0 len
 
-abbrev pub byteAfter : Held → ℕ → Held
+abbrev pub byteAfter : HeldCase → ℕ → HeldCase
 byteAfter s b =
     let m = matchedAfter (s .matched) b in
     held (set (s .text) (s .len) b) (lenAfter m (min (s .len + 1) (length (s .text)))) m
 
-unfoldable pub heldAfter : Held → List ℕ → Held
+unfoldable pub heldAfter : HeldCase → List ℕ → HeldCase
 heldAfter s [] = s
 heldAfter s (b ∷ t) = heldAfter (byteAfter s b) t
 
-pub held-pieces : (a b : List ℕ) (s : Held) → heldAfter s (a ++ b) ≡ heldAfter (heldAfter s a) b
+pub held-pieces : (a b : List ℕ) (s : HeldCase) → heldAfter s (a ++ b) ≡ heldAfter (heldAfter s a) b
 unfolding heldAfter
 held-pieces [] b s = refl
 held-pieces (x ∷ a) b s = held-pieces a b (byteAfter s x)
@@ -78,12 +78,12 @@ len-low m len = go (eqb m 4)
     go false = omega arith
 
 -- what is held after a part, with so much matched then
-abbrev pub keptWith : Held → List ℕ → ℕ → Held
+abbrev pub keptWith : HeldCase → List ℕ → ℕ → HeldCase
 keptWith s part m =
     held (sets (s .text) (s .len) part) (lenAfter m (s .len + fitting (s .text) (s .len) part)) m
 
 -- the part up to the end of a text, and what follows it
-abbrev Cut : ℕ → List ℕ → Held → Type 0
+abbrev Cut : ℕ → List ℕ → HeldCase → Type 0
 Cut at t s =
     let p = cutOf at (s .matched) t in
     heldAfter s t ≡ heldAfter (keptWith s (take (p .0 - at) t) (p .1)) (drop (p .0 - at) t)
@@ -121,7 +121,7 @@ more-fits text len b vs h =
     let n = min (len + 1) (length text) in
     ap (λ (x : ℕ). n + min (length vs) (x - n)) (length-set text len b) ∙ more-numbers len (length text) (length vs) n h refl
 
-abbrev rest : ℕ → ℕ → List ℕ → Held → ℕ × ℕ → Held
+abbrev rest : ℕ → ℕ → List ℕ → HeldCase → ℕ × ℕ → HeldCase
 rest at b t s p = heldAfter (keptWith s (take (p .0 - at) (b ∷ t)) (p .1)) (drop (p .0 - at) (b ∷ t))
 
 module _ (b : ℕ) (t : List ℕ) (at : ℕ) (text : List ℕ) (len m : ℕ) (h : len ≤ length text) where

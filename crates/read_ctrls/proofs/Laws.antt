@@ -13,7 +13,7 @@ use lib.Dec.{eqb, leb, ltb}
 use lib.ListN.{length, getD, set, drop}
 use borrow.Author.Tests.{eq-eqb, ne-eqb, ltb-true, ltb-false, leb-true, leb-false, lt-ltb, le-ltb, le-leb, lt-leb}
 use Rattle.lifting.specs.Bytes.{bytes}
-use Rattle.laws.specs.Lists.{every, tabulate}
+use Rattle.general_laws.specs.Lists.{every, tabulate}
 use Rattle.lifting.specs.Digits.{Reading}
 use Rattle.lifting.specs.Codec.{seq}
 use Rattle.lifting.specs.Ast.{ControlInst}

@@ -12,7 +12,7 @@ use native.Mathlib.Omega.{arith}
 use lib.ListN.{drop}
 use Rattle.lifting.specs.Bytes.{bytes}
 use Rattle.lifting.specs.Digits.{Reading}
-use Rattle.laws.specs.Lists.{every}
+use Rattle.general_laws.specs.Lists.{every}
 use Rattle.lifting.specs.Codec.{then, then-then, both, up, strip, lit, seq, view, same}
 use Rattle.lifting.specs.Ast.{Value, Imm, Inst, boolCond, spvInst, ControlInstKind, unreachable, return, branch, selectBranch, exitInvocation, ControlInst}
 use Rattle.lifting.specs.Parts.{ctrlInsts}

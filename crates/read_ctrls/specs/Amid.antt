@@ -12,15 +12,15 @@ use native.Mathlib.Omega.{arith}
 use lib.Dec.{leb, ltb, lit<}
 use lib.ListN.{length, getD, List·getD-eq-default}
 use borrow.Author.Tests.{leb-true, ltb-true, ltb-false, le-leb}
-use Rattle.laws.specs.Tests.{both}
+use Rattle.general_laws.specs.Tests.{both}
 use Rattle.lifting.specs.Limits.{maxRegions, maxValues, maxDecls, maxTargets, withinLimits}
 use Rattle.lifting.specs.Ast.{Value, Region, ControlInst, Func}
 use Rattle.lifting.specs.Parts.{regionOf}
 use Rattle.lifting.specs.Parts as text
-use Rattle.laws.specs.Gather.{gather-none}
+use Rattle.general_laws.specs.Gather.{gather-none}
 use Rattle.func.specs.Layout.{poolTotal, decls, values, targets, entries, regions, ctrls, shapes, lay, pools, poolOf, width, room, entry-room}
 use Rattle.func.specs.Store.{count, view, push, folds}
-use Rattle.func.specs.Adds.{Ready, Adds, ready-after, adds-then, into, adds-push, adds-many, grown, adds-folds, grown-none}
+use Rattle.func.specs.Adds.{AddsReady, Adds, ready-after, adds-then, into, adds-push, adds-many, grown, adds-folds, grown-none}
 use Rattle.func.specs.Lines.{keepCells, gained, lineGain}
 use Rattle.func.specs.Keep.{valueWords, entryCells, ctrlCells, keepValue, keepEntry, keepCtrl}
 use Rattle.func.specs.Rows.{entryRow, keepEntry-is, ctrlRowFrom, keepCtrlLists, keepCtrl-is}
@@ -31,12 +31,12 @@ use Rattle.read_ctrls.specs.Judge.{insOf}
 
 -- the words v come before the words t, and no region comes between
 pub record Amid (v t : List ℕ) : Type 0 where
-  pub ready : Ready v
+  pub ready : AddsReady v
   pub rest : ℕ → List (List ℕ)
   pub adds : Adds v t rest
   pub none : rest regions ≡ []
 
-amid-before : {v u t : List ℕ} {g : ℕ → List (List ℕ)} → Ready v → Adds v u g → g regions ≡ [] → Amid u t → Amid v t
+amid-before : {v u t : List ℕ} {g : ℕ → List (List ℕ)} → AddsReady v → Adds v u g → g regions ≡ [] → Amid u t → Amid v t
 amid-before {g = g} r a e m = record {
   ready = r;
   rest = λ k. g k ++ m .rest k;
@@ -44,7 +44,7 @@ amid-before {g = g} r a e m = record {
   none = rw (e, m .none);
 }
 
-amid-push : {v t : List ℕ} (k : ℕ) (e : List ℕ) → Ready v → k < poolTotal → length e ≡ width k → into k (e ∷ []) regions ≡ []
+amid-push : {v t : List ℕ} (k : ℕ) (e : List ℕ) → AddsReady v → k < poolTotal → length e ≡ width k → into k (e ∷ []) regions ≡ []
     → Amid (push k e v) t → Amid v t
 amid-push k e r l q n m = amid-before r (adds-push k e r l q) n m
 
@@ -54,7 +54,7 @@ unfolding folds
 folds-map k f [] w = refl
 folds-map k f (x ∷ xs) w = folds-map k f xs (push k (f x) w)
 
-pub adds-values : (vs : List Value) {w : List ℕ} → Ready w → Adds w (folds keepValue vs w) (into values (map valueWords vs))
+pub adds-values : (vs : List Value) {w : List ℕ} → AddsReady w → Adds w (folds keepValue vs w) (into values (map valueWords vs))
 unfolding entryCells
 adds-values vs {w} r =
     subst (λ (u : List ℕ). Adds w u (into values (map valueWords vs))) (folds-map values valueWords vs w)
@@ -64,10 +64,10 @@ lists-are : (c : ℕ × ControlInst) (w : List ℕ) → keepCells (ctrlCells c) 
 unfolding keepCells ctrlCells
 lists-are c w = simp folds-map
 
-pub adds-lists : (c : ℕ × ControlInst) {w : List ℕ} → Ready w → Adds w (keepCtrlLists (c .1) w) (gained (ctrlCells c))
+pub adds-lists : (c : ℕ × ControlInst) {w : List ℕ} → AddsReady w → Adds w (keepCtrlLists (c .1) w) (gained (ctrlCells c))
 adds-lists c {w} r = subst (λ (u : List ℕ). Adds w u (gained (ctrlCells c))) (lists-are c w) (adds-ctrl-cells c w r)
 
-pub adds-entries : (es : List (ℕ × List Value)) {w : List ℕ} → Ready w → Adds w (folds keepEntry es w) (grown keepEntry entryGain es w)
+pub adds-entries : (es : List (ℕ × List Value)) {w : List ℕ} → AddsReady w → Adds w (folds keepEntry es w) (grown keepEntry entryGain es w)
 adds-entries es {w} r = adds-folds keepEntry entryGain adds-entry es w r
 
 -- no region
@@ -80,7 +80,7 @@ unfolding ctrlGain gained ctrlCells gain lineGain entryCells
 ctrl-none c w = entries-at regions (λ e. []) (λ e w. refl) c w ∙ gather-none (c .1 .vals)
 
 module _ {t : List ℕ} where
-  pub amid-lines : (cs : List (ℕ × ControlInst)) {w : List ℕ} → Ready w → folds keepCtrl cs w ≡ t → Amid w t
+  pub amid-lines : (cs : List (ℕ × ControlInst)) {w : List ℕ} → AddsReady w → folds keepCtrl cs w ≡ t → Amid w t
   amid-lines cs {w} r e = record {
     ready = r;
     rest = grown keepCtrl ctrlGain cs w;
@@ -89,7 +89,7 @@ module _ {t : List ℕ} where
   }
 
   -- before a line's row
-  pub amid-row : (c : ℕ × ControlInst) {w : List ℕ} → Ready w → Amid (keepCtrl c w) t → Amid (folds keepEntry (c .1 .vals) (keepCtrlLists (c .1) w)) t
+  pub amid-row : (c : ℕ × ControlInst) {w : List ℕ} → AddsReady w → Amid (keepCtrl c w) t → Amid (folds keepEntry (c .1 .vals) (keepCtrlLists (c .1) w)) t
   unfolding ctrlRowFrom into width poolOf pools shapes lay
   amid-row c {w} r m =
       let a = ready-after r (adds-lists c r) in
@@ -97,10 +97,10 @@ module _ {t : List ℕ} where
       amid-push ctrls _ q (lit< tt) refl refl (subst (λ (u : List ℕ). Amid u t) (keepCtrl-is c w) m)
 
   -- before the other entries, and before an entry's row
-  pub amid-entries : (es : List (ℕ × List Value)) {w : List ℕ} → Ready w → Amid (folds keepEntry es w) t → Amid w t
+  pub amid-entries : (es : List (ℕ × List Value)) {w : List ℕ} → AddsReady w → Amid (folds keepEntry es w) t → Amid w t
   amid-entries es {w} r m = amid-before r (adds-entries es r) (entries-none es w) m
 
-  pub amid-values : (e : ℕ × List Value) {w : List ℕ} → Ready w → Amid (keepEntry e w) t → Amid (folds keepValue (e .1) w) t
+  pub amid-values : (e : ℕ × List Value) {w : List ℕ} → AddsReady w → Amid (keepEntry e w) t → Amid (folds keepValue (e .1) w) t
   unfolding entryRow into width poolOf pools shapes lay
   amid-values e {w} r m =
       let q = ready-after r (adds-values (e .1) r) in

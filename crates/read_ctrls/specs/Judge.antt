@@ -8,7 +8,7 @@ use mathlib.Core.List.{List}
 use Prim.Native.Nat.{ℕ, suc, _+_, _-_, _%_}
 use lib.Dec.{eqb, leb, ltb}
 use lib.ListN.{getD, set}
-use Rattle.laws.specs.Lists.{every, tabulate}
+use Rattle.general_laws.specs.Lists.{every, tabulate}
 use Rattle.lifting.specs.Limits.{maxRegions, maxTargets}
 use Rattle.lifting.specs.Ast.{Value, ControlInst}
 use Rattle.lifting.specs.Parts.{ctrlInsts}

@@ -13,8 +13,8 @@ use lib.Dec.{eqb, ltb}
 use lib.ListN.{length, getD, set, length-set}
 use lib.Seq.{getD-set-same, getD-set-other}
 use borrow.Author.Tests.{eqb-true, eqb-false, eq-eqb, ne-eqb, lt-ltb}
-use Rattle.laws.specs.Tests.{both}
-use Rattle.laws.specs.Lists.{choose, every, find, keys, within}
+use Rattle.general_laws.specs.Tests.{both}
+use Rattle.general_laws.specs.Lists.{choose, every, find, keys, within}
 use Rattle.lifting.specs.Limits.{maxRegions}
 use Rattle.lifting.specs.Ast.{Value}
 use Rattle.lifting.specs.Parts.{valsOr}

@@ -11,16 +11,16 @@ use lib.Dec.{eqb, leb, ltb, lit<}
 use lib.ListN.{length, getD, length-map}
 use lib.Seq.{getD-append-add}
 use borrow.Author.Tests.{eqb-true, eqb-false, eq-eqb, ne-eqb, ltb-true, ltb-false, le-leb}
-use Rattle.laws.specs.Lists.{every, gather, keys, tabulate, within}
+use Rattle.general_laws.specs.Lists.{every, gather, keys, tabulate, within}
 use Rattle.lifting.specs.Limits.{maxRegions, maxTargets, withinLimits}
 use Rattle.lifting.specs.Ast.{Value, ControlInst, Func}
 use Rattle.lifting.specs.Parts.{regionOf, valsFor, ctrlInsts}
 use Rattle.lifting.specs.Counts.{edgesFit}
 use Rattle.check_references.specs.Test.{opcodeFits}
-use Rattle.laws.specs.Every.{every-append, every-same}
+use Rattle.general_laws.specs.Every.{every-append, every-same}
 use Rattle.func.specs.Layout.{values, targets, entry-room}
 use Rattle.func.specs.Store.{count, view, folds, length-view}
-use Rattle.func.specs.Adds.{Ready, Adds, ready-after, adds-then, into, grown, grown-none}
+use Rattle.func.specs.Adds.{AddsReady, Adds, ready-after, adds-then, into, grown, grown-none}
 use Rattle.func.specs.Lines.{gained, lineGain}
 use Rattle.func.specs.Keep.{single, valueWords, entryCells, ctrlCells, keepValue, keepEntry, keepCtrl, keepFunc}
 use Rattle.func.specs.Rows.{keepCtrlLists}
@@ -109,7 +109,7 @@ targets-gained c w =
 
 module _ {F : Func} {t : List ℕ} (d : Stored F t) (l : withinLimits F ≡ true) where
   -- an entry
-  entry-is : (e : ℕ × List Value) {w : List ℕ} → Ready w → Amid (keepEntry e w) t
+  entry-is : (e : ℕ × List Value) {w : List ℕ} → AddsReady w → Amid (keepEntry e w) t
       → entryFits (e .0) w (folds keepValue (e .1) w) ≡ entryAgrees F e
   unfolding entryFits into
   entry-is e {w} r m =
@@ -118,7 +118,7 @@ module _ {F : Func} {t : List ℕ} (d : Stored F t) (l : withinLimits F ≡ true
       omega (arith, adds-values (e .1) r .counts values (lit< tt), length-map (e .1) valueWords, value-room d l a) in
       (λ k. eqb (count values w + ins-of d l a (e .0) k) (n k)) ∙ eqb-shift (count values w) (length (regionOf F (e .0) .ins)) (length (e .1))
 
-  entries-are : (line : ℕ) (es : List (ℕ × List Value)) (s : Edges) → Ready (s .func) → Amid (folds keepEntry es (s .func)) t
+  entries-are : (line : ℕ) (es : List (ℕ × List Value)) (s : Edges) → AddsReady (s .func) → Amid (folds keepEntry es (s .func)) t
       → folds (keepEdge line) es s .fit ≡ (s .fit && every (entryAgrees F) es)
   unfolding folds keepEdge
   entries-are line [] s r m = and-true (s .fit)
@@ -131,7 +131,7 @@ module _ {F : Func} {t : List ℕ} (d : Stored F t) (l : withinLimits F ≡ true
       ∙ ap (λ (b : Bool). s .fit && (b && rest)) (entry-is e r (amid-entries es q m))
 
   -- the targets of a line: they stand at the end of their pool
-  module _ (c : ℕ × ControlInst) {w : List ℕ} (r : Ready w) (m : Amid (listed c w) t) where
+  module _ (c : ℕ × ControlInst) {w : List ℕ} (r : AddsReady w) (m : Amid (listed c w) t) where
     adds-line : Adds w (listed c w) (lineGains c w)
     unfolding listed lineGains
     adds-line = adds-then (adds-lists c r) (adds-entries (c .1 .vals) (ready-after r (adds-lists c r)))
@@ -181,7 +181,7 @@ module _ {F : Func} {t : List ℕ} (d : Stored F t) (l : withinLimits F ≡ true
   edges-are c false e =
       ap (λ (b : Bool). b && every (λ i. eqb (length (valsFor c i)) (length (regionOf F i .ins))) (c .to)) e
 
-  line-is : (c : ℕ × ControlInst) (s : State) → Ready (s .func) → Low (s .line) (s .marks) → Amid (keepCtrl c (s .func)) t
+  line-is : (c : ℕ × ControlInst) (s : State) → AddsReady (s .func) → Low (s .line) (s .marks) → Amid (keepCtrl c (s .func)) t
       → keepJudged c s .edges ≡ (s .edges && edgesFit F (c .1))
   unfolding keepJudged edgesOf listed
   line-is c s r low m =
@@ -198,7 +198,7 @@ module _ {F : Func} {t : List ℕ} (d : Stored F t) (l : withinLimits F ≡ true
           marked (suc (s .line)) (c .1 .vals) (opened (c .1) s) i h (low .size)
           ∙ ap (λ (b : Bool). b || within i (keys (c .1 .vals))) (ne-eqb (getD (s .marks) i 0) (suc (s .line)) (λ q. omega (arith, low .low i)))
 
-  edges-from : (cs : List (ℕ × ControlInst)) (s : State) → Ready (s .func) → Low (s .line) (s .marks) → folds keepCtrl cs (s .func) ≡ t
+  edges-from : (cs : List (ℕ × ControlInst)) (s : State) → AddsReady (s .func) → Low (s .line) (s .marks) → folds keepCtrl cs (s .func) ≡ t
       → folds keepJudged cs s .edges ≡ (s .edges && every (λ c. edgesFit F (c .1)) cs)
   unfolding folds keepJudged edgesOf
   edges-from [] s r low e = and-true (s .edges)
@@ -214,7 +214,7 @@ unfolding start withOps withNodes withRegions withParams withConsts headed keepF
 edges-judged F {z} c m n h l =
     edges-from (stored-func F c) l (F .ctrls) (start (withOps F z) m) ready (record { size = n; low = λ i. omega (arith, h i) }) refl
   where
-    ready : Ready (withOps F z)
+    ready : AddsReady (withOps F z)
     ready =
         let s = stages F c in
         ready-after (ready-after (ready-after (ready-after (ready-after (ready-clear (clear-head F c)) (s .const)) (s .param)) (s .region)) (s .node)) (s .op)

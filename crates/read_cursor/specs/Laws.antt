@@ -1,5 +1,5 @@
 -- What one step of the code is in the definitions, over plain variables. Assumes nothing.
---     told, onward                  how a caller goes by an answer, and from one step to the next
+--     by-answer, onward                  how a caller goes by an answer, and from one step to the next
 --     behind-.., before-.., sub-..  what stands behind a literal
 --     head-..                       a word, two numbers and a head
 --     closed-..                     what a closing bracket ends
@@ -29,9 +29,9 @@ use Rattle.read_cursor.specs.Begins.{then-nothing}
 use Rattle.read_cursor.specs.Form.{deeper, closes, span, firstOf, formAt}
 
 -- an answer that is known to be one of its cases: f gives what it says was found
-pub told : {R A : Type 0} {read : List ℕ → Reading A} {text : List ℕ} {at : ℕ} (f : R → Option (A × ℕ)) {r s : R} → r ≡ s
+pub by-answer : {R A : Type 0} {read : List ℕ → Reading A} {text : List ℕ} {at : ℕ} (f : R → Option (A × ℕ)) {r s : R} → r ≡ s
     → Reads read text at (f r) → Reads read text at (f s)
-told {read = read} {text} {at} f e p = subst (λ r. Reads read text at (f r)) e p
+by-answer {read = read} {text} {at} f e p = subst (λ r. Reads read text at (f r)) e p
 
 -- one step after another
 pub onward : {text : List ℕ} {at mid next : ℕ} → Onward text at mid → Onward text mid next → Onward text at next

@@ -14,7 +14,7 @@ use lib.ListN.{length, getD, replicate, length-replicate}
 use borrow.Author.Tests.{le-leb, lt-leb, leb-true}
 use Rattle.refusals.specs.declared.Refusal.the-variants.{Forms, Long, Scratch}
 use Rattle.refusals.specs.Numbers.{refusalNumber}
-use Rattle.laws.specs.Lists.{every, gather}
+use Rattle.general_laws.specs.Lists.{every, gather}
 use Rattle.lifting.specs.Limits.{maxBytes, funcWords, workWords, withinLimits}
 use Rattle.lifting.specs.Ast.{Func}
 use Rattle.lifting.specs.Parts.{ctrlInsts}

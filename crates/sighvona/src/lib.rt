@@ -8,7 +8,7 @@ use refusals::Refusal;
 use refusals::number;
 ghost use mathlib.Core.Path.{_≡_};
 ghost use Rattle.lifting.specs.Answer.{outAfter, scratchAfter};
-ghost use Rattle.lifter.specs.Lift.{answerTo, wantedTo};
+ghost use Rattle.lifter.specs.Entry.{answerTo, wantedTo};
 ghost use Rattle.sighvona.specs.Numbers.{nextOr, readLeaves, readOf, readTo, refusalOf, refusalWords, version, wordsOr};
 
 // What `words` holds after a refusal: 11 tells how many words are wanted.

@@ -31,7 +31,7 @@ ghost use Rattle.lifting.specs.Walk.{always, entryKeys, exitTerm, inBlock, top}
 ghost use Rattle.func.specs.Decode.{funcOf};
 ghost use Rattle.func.specs.Tables.{Tables};
 ghost use Rattle.func.specs.Kinds.{asValue};
-ghost use Rattle.laws.specs.Members.{In};
+ghost use Rattle.general_laws.specs.Members.{In};
 ghost use Rattle.work.specs.Layout.{tablesEnd, parentsEnd};
 ghost use Rattle.walk_roots.specs.Tables.{Indexed};
 ghost use Rattle.lifting_blocks.specs.Follow.{goesOn};

@@ -12,7 +12,7 @@ use Rattle.lifting.specs.Ast.{Func, Node, block}
 use Rattle.lifting.specs.Parts.{childrenOf, nodeOf}
 use Rattle.lifting.specs.Points.{BlockLifting, CfgPoint, Table, nodeEntry, nodeExit, regionEntry, regionExit}
 use Rattle.lifting.specs.Walk.{Place, entryBlock, exitBlock, inBlock, inNode, outBlock, top, walkOf}
-use Rattle.laws.specs.Members.{In, here, in-nil}
+use Rattle.general_laws.specs.Members.{In, here, in-nil}
 use Rattle.lifting_runs.specs.Places as places
 use Rattle.lifting_runs.specs.TourLaid.{suffix-in}
 use Rattle.lifting_runs.specs.Shaped.{visited-low}
@@ -83,7 +83,7 @@ module _ (F : Func) (ok : Walkable F) where
       let e : parentOf F r ≡ suc n = omega (arith, parent-is (ok .shaped .forest) n r (holds-low (F .nodes) n r h) h) in
       ap placeBy (sym e)
 
-  place-is : {r : ℕ} {p : Place} → places.Visited F r p → p ≡ placeIn F r
+  place-is : {r : ℕ} {p : Place} → places.VisitedAt F r p → p ≡ placeIn F r
   place-is {r} {p} v = place-from r p (placed F (ok .shaped .targets) v)
 
   step-block : {x : CfgPoint × BlockLifting} {o : Option CfgPoint} → Step F x o → x .1 ≡ blockOf F (x .0) (nextOf o)

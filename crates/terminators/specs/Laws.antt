@@ -23,7 +23,7 @@ use Rattle.func.specs.Search.{CtrlIs}
 use Rattle.func.specs.Decode.{firstValue, funcOf}
 use Rattle.func.specs.Tables.{Tables}
 use Rattle.func.specs.Kinds.{nodeKind}
-use Rattle.laws.specs.Members.{In, in-nil, length-tabulate}
+use Rattle.general_laws.specs.Members.{In, in-nil, length-tabulate}
 use Rattle.work.specs.Layout.{pointsAt}
 use Rattle.lifting_blocks.specs.Follow.{goesOn}
 use Rattle.lifting_blocks.specs.Laws.{follows}

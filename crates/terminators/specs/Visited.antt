@@ -8,7 +8,7 @@ use mathlib.Core.List.{List, [], _∷_}
 use Prim.Native.Nat.{ℕ, zero, suc, _+_, _≤_, _<_}
 use native.Mathlib.Omega.{arith}
 use lib.ListN.{getD, length}
-use Rattle.laws.specs.Lists.{tabulate}
+use Rattle.general_laws.specs.Lists.{tabulate}
 use Rattle.lifting.specs.Points.{CfgPoint, Table, points, regionEntry}
 use Rattle.lifting.specs.Walk.{walkOf}
 use Rattle.lifting.specs.Absorb.{labels}
@@ -18,7 +18,7 @@ use Rattle.work.specs.Layout.{linesAt, childrenAt, pointsAt, parentsAt, parents
 use Rattle.walk_roots.specs.Tables.{Indexed}
 use Rattle.lifting_blocks.specs.Flat.{noPair}
 use Rattle.lifting_blocks.specs.Uses.{labels-visited}
-use Rattle.laws.specs.Members.{In, all-in, in-getD}
+use Rattle.general_laws.specs.Members.{In, all-in, in-getD}
 use Rattle.walk_points.specs.Numbers.{Small, number-back, pointNumber, pointOf, visited, visited-at}
 use Rattle.walk_points.specs.Parents.{Parents}
 use Rattle.walk_points.specs.Walk.{Walkable, few-nodes, walk-small}

@@ -10,14 +10,14 @@ use Rattle.func.specs.Decode.{funcOf}
 use Rattle.func.specs.Tables.{Tables}
 use Rattle.work.specs.Layout.{parentsAt, parentsEnd}
 use Rattle.work.specs.Aside.{Aside, aside-none, aside-set, aside-more}
-use Rattle.walk_roots.specs.Tables.{Named, drop-one}
+use Rattle.walk_roots.specs.Tables.{RegionsNamed, drop-one}
 use Rattle.walk_points.specs.Parents.{Parents, Empty, Adopted, Names, names-more, ParentsFrom, parents-first, parents-more}
 use Rattle.walk_points.specs.Walk.{few-nodes}
 
 -- the children of node n from child i on name it
 pub record Adopting (func : List ℕ) (n : ℕ) (w : List ℕ) (i : ℕ) (work : List ℕ) : Type 0 where
   pub tables : Tables func
-  pub named : Named (funcOf func)
+  pub named : RegionsNamed (funcOf func)
   pub known : n < length (funcOf func .nodes)
   pub size : parentsEnd ≤ length w
   pub below : i ≤ length (childrenOf (nodeOf (funcOf func) n))
@@ -25,7 +25,7 @@ pub record Adopting (func : List ℕ) (n : ℕ) (w : List ℕ) (i : ℕ) (work :
   pub aside : Aside parentsAt parentsEnd w work
   pub names : Names n (drop i (childrenOf (nodeOf (funcOf func) n))) w work
 
-pub adopt-first : {func w : List ℕ} {n : ℕ} → Tables func → Named (funcOf func) → n < length (funcOf func .nodes) → parentsEnd ≤ length w
+pub adopt-first : {func w : List ℕ} {n : ℕ} → Tables func → RegionsNamed (funcOf func) → n < length (funcOf func .nodes) → parentsEnd ≤ length w
     → {i : ℕ} → i ≡ length (childrenOf (nodeOf (funcOf func) n)) → Adopting func n w i w
 adopt-first {func} {w} {n} t h k z {i} e =
     let l : List ℕ = childrenOf (nodeOf (funcOf func) n) in
@@ -73,14 +73,14 @@ module _ {func : List ℕ} {n : ℕ} {w : List ℕ} {i : ℕ} {work : List ℕ} 
 -- the nodes from node i on are in the table
 pub record Filling (func w : List ℕ) (i : ℕ) (work : List ℕ) : Type 0 where
   pub tables : Tables func
-  pub named : Named (funcOf func)
+  pub named : RegionsNamed (funcOf func)
   pub size : parentsEnd ≤ length w
   pub below : i ≤ length (funcOf func .nodes)
   pub same : length work ≡ length w
   pub aside : Aside parentsAt parentsEnd w work
   pub words : ParentsFrom (funcOf func) i work
 
-pub fill-first : {func w : List ℕ} → Tables func → Named (funcOf func) → parentsEnd ≤ length w → Empty w
+pub fill-first : {func w : List ℕ} → Tables func → RegionsNamed (funcOf func) → parentsEnd ≤ length w → Empty w
     → {i : ℕ} → i ≡ length (funcOf func .nodes) → Filling func w i w
 fill-first {func} {w} t h z b {i} e = record {
   tables = t;

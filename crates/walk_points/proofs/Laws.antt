@@ -11,17 +11,17 @@ use native.Mathlib.Numerals.{add-one}
 use native.Mathlib.Omega.{arith}
 use lib.ListN.{length, getD, take, set, length-append}
 use lib.Seq.{sets, take-length, take-suc, length-sets}
-use Rattle.laws.specs.Lists.{gather}
+use Rattle.general_laws.specs.Lists.{gather}
 use Rattle.lifting.specs.Parts.{regionOf, nodeOf, childrenOf}
 use Rattle.lifting.specs.Points.{regionEntry, regionExit, nodeEntry, nodeExit}
-use Rattle.laws.specs.Gather.{gather-append}
+use Rattle.general_laws.specs.Gather.{gather-append}
 use Rattle.func.specs.Decode.{funcOf}
 use Rattle.func.specs.Tables.{Tables}
-use Rattle.laws.specs.Members.{In, in-getD}
+use Rattle.general_laws.specs.Members.{In, in-getD}
 use Rattle.work.specs.Layout.{pointsAt, pointsEnd}
 use Rattle.walk_points.specs.Numbers.{pointNumber}
 use Rattle.walk_points.specs.Below.{regionWords, nodeWords, region-words, node-words}
-use Rattle.walk_points.specs.Walk.{Walkable, Ready, few-nodes}
+use Rattle.walk_points.specs.Walk.{Walkable, PointsReady, few-nodes}
 
 -- one run of words after the other
 sets-sets : (w xs ys : List ℕ) (a : ℕ) → sets (sets w a xs) (a + length xs) ys ≡ sets w a (xs ++ ys)
@@ -97,7 +97,7 @@ pub words-size : {ws : List ℕ} (a b : ℕ) (f : ℕ → List ℕ) (l : List �
 words-size a b f l e = ap length e ∙ omega (arith, length-append (gather f l) (b ∷ []))
 
 pub walking-first : {func w ws : List ℕ} {a b : ℕ} {f : ℕ → List ℕ} {l : List ℕ} {m : ℕ} {u : List ℕ} {from count : ℕ}
-    → Ready func w m (length ws) → ws ≡ a ∷ (gather f l ++ (b ∷ [])) → length u ≡ length w → from ≡ m + 1 → count ≡ length l → Walking func ws a b f l m u from count 0 u from
+    → PointsReady func w m (length ws) → ws ≡ a ∷ (gather f l ++ (b ∷ [])) → length u ≡ length w → from ≡ m + 1 → count ≡ length l → Walking func ws a b f l m u from count 0 u from
 walking-first {f = f} {l} {u = u} {from} r e z ef ec = record {
   tables = r .tables;
   walkable = r .walkable;
@@ -118,7 +118,7 @@ module _ {func ws : List ℕ} {a b : ℕ} {f : ℕ → List ℕ} {l : List ℕ} 
     inside : i < length l
     inside = omega (arith, s .all)
 
-    pub walking-call : (length (f x) < length ws) × Ready func work at (length (f x))
+    pub walking-call : (length (f x) < length ws) × PointsReady func work at (length (f x))
     walking-call =
         let room : at + length (f x) ≤ from + length (gather f l) = turn-room (s .turn) inside e in
         let size : length ws ≡ 2 + length (gather f l) = words-size a b f l (s .whole) in
@@ -176,13 +176,13 @@ module _ (func : List ℕ) where
       (childrenOf (nodeOf (funcOf func) n)) m w from count i work at
 
 -- there is room for the entry, and the numbers of both points are small
-pub region-room : {func w : List ℕ} {r m : ℕ} → Ready func w m (length (regionWords (funcOf func) r)) → r < length (funcOf func .regions)
+pub region-room : {func w : List ℕ} {r m : ℕ} → PointsReady func w m (length (regionWords (funcOf func) r)) → r < length (funcOf func .regions)
     → (m < 512) × (r < 128) × (pointsEnd ≤ length w)
 region-room {func} {w} {r} {m} p k =
     let F = funcOf func in
     omega (arith, p .room, p .size, p .walkable .named .few, words-size _ _ (nodeWords F) (regionOf F r .nodes) (region-words F (p .walkable .shaped) r))
 
-pub node-room : {func w : List ℕ} {n m : ℕ} → Ready func w m (length (nodeWords (funcOf func) n)) → n < length (funcOf func .nodes)
+pub node-room : {func w : List ℕ} {n m : ℕ} → PointsReady func w m (length (nodeWords (funcOf func) n)) → n < length (funcOf func .nodes)
     → (m < 512) × (n < 128) × (pointsEnd ≤ length w)
 node-room {func} {w} {n} {m} p k =
     let F = funcOf func in

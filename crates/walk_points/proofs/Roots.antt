@@ -7,15 +7,15 @@ use Prim.Native.Nat.{ℕ, _+_, _-_, _≤_, _<_}
 use native.Mathlib.Omega.{arith}
 use lib.ListN.{length, getD, take, length-map}
 use lib.Seq.{sets}
-use Rattle.laws.specs.Part.{part-at, part-same, at-before, at-after}
-use Rattle.laws.specs.Lists.{gather}
+use Rattle.general_laws.specs.Part.{part-at, part-same, at-before, at-after}
+use Rattle.general_laws.specs.Lists.{gather}
 use Rattle.lifting.specs.Ast.{Func}
 use Rattle.lifting.specs.Order.{roots}
 use Rattle.lifting.specs.Points.{CfgPoint, points}
 use Rattle.lifting.specs.Walk.{walkOf}
 use Rattle.func.specs.Decode.{funcOf}
 use Rattle.func.specs.Tables.{Tables}
-use Rattle.laws.specs.Members.{In, in-getD, length-tabulate}
+use Rattle.general_laws.specs.Members.{In, in-getD, length-tabulate}
 use Rattle.work.specs.Layout.{rootsEnd, linesAt, tablesEnd, pointsAt, pointsEnd, parentsAt, parentsEnd}
 use Rattle.work.specs.Aside.{Aside}
 use Rattle.walk_roots.specs.Tables.{Indexed}
@@ -23,7 +23,7 @@ use Rattle.walk_roots.specs.Visit.{listed, listed-same}
 use Rattle.walk_points.specs.Numbers.{pointNumber, visited, visited-sets, getD-tabulate}
 use Rattle.walk_points.specs.Below.{regionWords, walk-words}
 use Rattle.walk_points.specs.Parents.{parentOf, Parents}
-use Rattle.walk_points.specs.Walk.{Walkable, Ready, Walked, few-nodes, root-low, walk-small, walk-few, length-points}
+use Rattle.walk_points.specs.Walk.{Walkable, PointsReady, Walked, few-nodes, root-low, walk-small, walk-few, length-points}
 use Rattle.walk_points.specs.Words.{WalkWords, by-place}
 use Rattle.walk_points.proofs.Laws.{Turn, turn-first, turn-length, turn-room, turn-next, turn-all}
 
@@ -75,7 +75,7 @@ module _ {func w : List ℕ} {n i : ℕ} {work : List ℕ} {at : ℕ} (s : Rooti
         ∙ sym (getD-tabulate (λ j. getD w j 0) (rootsEnd - n) n i 0 h)
         ∙ ap (λ (l : List ℕ). getD l i 0) (s .order)
 
-    pub rooting-call : Ready func work at (length (regionWords F x)) × (x < length (F .regions))
+    pub rooting-call : PointsReady func work at (length (regionWords F x)) × (x < length (F .regions))
     rooting-call = (
       record {
         tables = s .tables;

@@ -8,15 +8,15 @@ use mathlib.Core.List.{List, [], _∷_, _++_, map}
 use Prim.Native.Nat.{ℕ, zero, suc, _≤_, _<_}
 use native.Mathlib.Omega.{arith}
 use lib.ListN.{length}
-use Rattle.laws.specs.Lists.{gather}
+use Rattle.general_laws.specs.Lists.{gather}
 use Rattle.lifting.specs.Ast.{Func}
 use Rattle.lifting.specs.Parts.{regionOf, nodeOf, childrenOf}
 use Rattle.lifting.specs.Order.{roots}
 use Rattle.lifting.specs.Points.{CfgPoint, regionEntry, regionExit, nodeEntry, nodeExit, Table, points}
 use Rattle.lifting.specs.Walk.{Place, top, inNode, nextPoint, exitBlock, walkKids, walkNode, walkNodes, walkRegion, walkRoots, walkOf}
-use Rattle.laws.specs.Gather.{map-append, map-gather}
-use Rattle.laws.specs.Members.{In, here, there, All, all-append}
-use Rattle.laws.specs.Tests.{all-gather}
+use Rattle.general_laws.specs.Gather.{map-append, map-gather}
+use Rattle.general_laws.specs.Members.{In, here, there, All, all-append}
+use Rattle.general_laws.specs.Tests.{all-gather}
 use Rattle.lifting_runs.specs.Tour.{Tree, points-append}
 use Rattle.lifting_runs.specs.Shaped.{Shaped, tree, walk-is}
 use Rattle.walk_points.specs.Numbers.{pointNumber, Small}

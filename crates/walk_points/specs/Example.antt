@@ -6,7 +6,7 @@ use mathlib.Core.Option.{Option, none, some}
 use Prim.Native.Nat.{ℕ, _+_, _-_}
 use native.Mathlib.Decide.{ℕ-discrete}
 use Rattle.lifting.specs.Bytes.{bytes}
-use Rattle.laws.specs.Lists.{below}
+use Rattle.general_laws.specs.Lists.{below}
 use Rattle.lifting.specs.Ast.{Func}
 use Rattle.lifting.specs.Grammar.{read}
 use Rattle.lifting.specs.Order.{roots}

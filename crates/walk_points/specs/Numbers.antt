@@ -13,10 +13,10 @@ use lib.Dec.{eqb, ltb}
 use lib.ListN.{length, getD, set, length-set, length-map}
 use lib.Seq.{sets, getD-set-same}
 use borrow.Author.Tests.{eqb-true, eqb-false, ltb-true, ltb-false, eq-eqb, ne-eqb, lt-ltb, le-ltb}
-use Rattle.laws.specs.Part.{at-before}
-use Rattle.laws.specs.Lists.{tabulate}
+use Rattle.general_laws.specs.Part.{at-before}
+use Rattle.general_laws.specs.Lists.{tabulate}
 use Rattle.lifting.specs.Points.{CfgPoint, regionEntry, regionExit, nodeEntry, nodeExit}
-use Rattle.laws.specs.Members.{In, All, NoDup, map-in, all-in}
+use Rattle.general_laws.specs.Members.{In, All, NoDup, map-in, all-in}
 use Rattle.work.specs.Layout.{pointsAt}
 use Rattle.func_fits.specs.Fewer.{fewer-below}
 

@@ -12,10 +12,10 @@ use native.Mathlib.Numerals.{add-one}
 use native.Mathlib.Omega.{arith}
 use lib.ListN.{length, getD, set, drop}
 use lib.Seq.{drop-length, getD-set-same, getD-set-other}
-use Rattle.laws.specs.Lists.{choose-yes, choose-no, within}
+use Rattle.general_laws.specs.Lists.{choose-yes, choose-no, within}
 use Rattle.lifting.specs.Ast.{Node, block, Func}
 use Rattle.lifting.specs.Parts.{nodeOf, childrenOf}
-use Rattle.laws.specs.Members.{In, in-within, within-yes, within-no}
+use Rattle.general_laws.specs.Members.{In, in-within, within-yes, within-no}
 use Rattle.lifting_runs.specs.Accepted.{Forest, Root}
 use Rattle.work.specs.Layout.{parentsAt, parentsEnd}
 use Rattle.work.specs.Aside.{Cleared, split}

@@ -21,13 +21,13 @@ use Rattle.lifting.specs.Walk.{walkOf}
 use Rattle.func.specs.Layout.{nodes}
 use Rattle.func.specs.Decode.{funcOf}
 use Rattle.func.specs.Tables.{Tables, node-total}
-use Rattle.laws.specs.Members.{In, All, all-in}
-use Rattle.laws.specs.Tests.{all-gather, in-at}
+use Rattle.general_laws.specs.Members.{In, All, all-in}
+use Rattle.general_laws.specs.Tests.{all-gather, in-at}
 use Rattle.lifting_runs.specs.Refers.{refers}
 use Rattle.lifting_runs.specs.Order.{roots-visited}
 use Rattle.lifting_runs.specs.Shaped.{Shaped, shaped-checked, visited-low, walk-once}
 use Rattle.work.specs.Layout.{pointsAt, pointsEnd}
-use Rattle.walk_roots.specs.Tables.{Named}
+use Rattle.walk_roots.specs.Tables.{RegionsNamed}
 use Rattle.check_control.specs.Meets.{named-refers}
 use Rattle.walk_points.specs.Numbers.{pointNumber, Small, points-few}
 use Rattle.walk_points.specs.Below.{regionPoints, walk-are, region-small}
@@ -35,7 +35,7 @@ use Rattle.walk_points.specs.Below.{regionPoints, walk-are, region-small
 -- the tree is checked, children, ctrl lines and targets name regions, and regions name nodes
 pub record Walkable (F : Func) : Type 0 where
   pub shaped : Shaped F
-  pub named : Named F
+  pub named : RegionsNamed F
   pub node : (r n : ℕ) → In n (regionOf F r .nodes) → n < length (F .nodes)
 
 pub walkable-checked : {w : List ℕ} → Tables w → hasBody (funcOf w .regions) ≡ true → referencesHold (funcOf w) ≡ true
@@ -48,7 +48,7 @@ walkable-checked {w} t body references tree counts control = record {
 }
 
 -- m points are there, k are to come, and they fit the words
-pub record Ready (func work : List ℕ) (m k : ℕ) : Type 0 where
+pub record PointsReady (func work : List ℕ) (m k : ℕ) : Type 0 where
   pub tables : Tables func
   pub walkable : Walkable (funcOf func)
   pub size : pointsEnd ≤ length work

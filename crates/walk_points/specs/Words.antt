@@ -9,7 +9,7 @@ use Prim.Native.Nat.{ℕ, _+_, _-_, _≤_, _<_}
 use native.Mathlib.Omega.{arith}
 use lib.Dec.{ltb}
 use lib.ListN.{length, getD}
-use Rattle.laws.specs.Compare.{lower, higher, either}
+use Rattle.general_laws.specs.Compare.{lower, higher, either}
 use Rattle.lifting.specs.Ast.{Func}
 use Rattle.lifting.specs.Points.{points}
 use Rattle.lifting.specs.Walk.{walkOf}

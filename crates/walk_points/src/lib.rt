@@ -26,7 +26,7 @@ ghost use Rattle.walk_roots.specs.Visit.{listed};
 ghost use Rattle.walk_points.specs.Numbers.{visited};
 ghost use Rattle.walk_points.specs.Below.{regionWords, nodeWords};
 ghost use Rattle.walk_points.specs.Parents.{Parents};
-ghost use Rattle.walk_points.specs.Walk.{Walkable, Ready, Walked};
+ghost use Rattle.walk_points.specs.Walk.{Walkable, PointsReady, Walked};
 ghost use Rattle.walk_points.specs.Words.{WalkWords};
 
 pub const NODE_BASE: usize = 256;
@@ -44,7 +44,7 @@ fn put(work: &mut [u32], m: usize, p: usize) -> usize
 
 // The points of region r are visited after m others: how many there are then.
 fn walk_region(func: &[u32], work: &mut [u32], r: usize, m: usize) -> usize
-    requires { ⌜ Ready (now func) (now work) m (length (regionWords (funcOf (now func)) r)) ⌝ }
+    requires { ⌜ PointsReady (now func) (now work) m (length (regionWords (funcOf (now func)) r)) ⌝ }
     requires { ⌜ r < length (funcOf (now func) .regions) ⌝ }
     ensures { λ k. ⌜ k ≡ m + length (regionWords (funcOf (now (func .entry))) r) ⌝ }
     ensures { λ _. ⌜ now (work .exit) ≡ sets (now (work .entry)) (pointsAt + m) (regionWords (funcOf (now (func .entry))) r) ⌝ }
@@ -62,7 +62,7 @@ fn walk_region(func: &[u32], work: &mut [u32], r: usize, m: usize) -> usize
 
 // The points of node n are visited after m others: how many there are then.
 fn walk_node(func: &[u32], work: &mut [u32], n: usize, m: usize) -> usize
-    requires { ⌜ Ready (now func) (now work) m (length (nodeWords (funcOf (now func)) n)) ⌝ }
+    requires { ⌜ PointsReady (now func) (now work) m (length (nodeWords (funcOf (now func)) n)) ⌝ }
     requires { ⌜ n < length (funcOf (now func) .nodes) ⌝ }
     ensures { λ k. ⌜ k ≡ m + length (nodeWords (funcOf (now (func .entry))) n) ⌝ }
     ensures { λ _. ⌜ now (work .exit) ≡ sets (now (work .entry)) (pointsAt + m) (nodeWords (funcOf (now (func .entry))) n) ⌝ }

@@ -13,13 +13,13 @@ ghost use Rattle.func.specs.Decode.{funcOf};
 ghost use Rattle.func.specs.Tables.{Tables};
 ghost use Rattle.work.specs.Layout.{parentsAt, parentsEnd};
 ghost use Rattle.work.specs.Aside.{Aside};
-ghost use Rattle.walk_roots.specs.Tables.{Named};
+ghost use Rattle.walk_roots.specs.Tables.{RegionsNamed};
 ghost use Rattle.walk_points.specs.Parents.{Parents, Adopted};
 
 // Node n is the parent of its children.
 fn adopt(func: &[u32], n: usize, work: &mut [u32])
     requires { ⌜ Tables (now func) ⌝ }
-    requires { ⌜ Named (funcOf (now func)) ⌝ }
+    requires { ⌜ RegionsNamed (funcOf (now func)) ⌝ }
     requires { ⌜ (n < length (funcOf (now func) .nodes)) × (parentsEnd ≤ length (now work)) ⌝ }
     ensures { λ _. ⌜ Adopted (funcOf (now (func .entry))) n (now (work .entry)) (now (work .exit)) ⌝ }
     ensures { λ _. ⌜ Aside parentsAt parentsEnd (now (work .entry)) (now (work .exit)) ⌝ }
@@ -36,7 +36,7 @@ fn adopt(func: &[u32], n: usize, work: &mut [u32])
 // The table of parents stands.
 pub fn parents(func: &[u32], work: &mut [u32])
     requires { ⌜ Tables (now func) ⌝ }
-    requires { ⌜ Named (funcOf (now func)) ⌝ }
+    requires { ⌜ RegionsNamed (funcOf (now func)) ⌝ }
     requires { ⌜ parentsEnd ≤ length (now work) ⌝ }
     ensures { λ _. ⌜ Parents (funcOf (now (func .entry))) (now (work .exit)) ⌝ }
     ensures { λ _. ⌜ Aside parentsAt parentsEnd (now (work .entry)) (now (work .exit)) ⌝ }

@@ -8,7 +8,7 @@ use native.Mathlib.Omega.{arith}
 use lib.Dec.{lit<}
 use lib.ListN.{length, getD, set, length-set}
 use lib.Seq.{getD-set-same, getD-set-other}
-use Rattle.laws.specs.Lists.{within}
+use Rattle.general_laws.specs.Lists.{within}
 use Rattle.lifting.specs.Ast.{Func}
 use Rattle.lifting.specs.Order.{Seen, targetsOf, visits, visitIf, visit, roots}
 use Rattle.func.specs.declared.CtrlAt.{CtrlAt}
@@ -18,8 +18,8 @@ use Rattle.func.specs.Decode.{funcOf}
 use Rattle.func.specs.Tables.{Tables, ctrlLine}
 use Rattle.work.specs.Layout.{rootsEnd, linesAt, marksAt, tablesEnd}
 use Rattle.work.specs.Aside.{split, Aside, aside-none, aside-more, aside-set}
-use Rattle.walk_roots.specs.Tables.{Named, Indexed, Marked, marked-more, marked-not, marked-is, line-none, line-here}
-use Rattle.walk_roots.specs.Visit.{ways, listed, unseen, unseen-same, unseen-set, unseen-most, Stands, Low, Ready, Visited, ahead, ahead-all, listed-same, listed-more}
+use Rattle.walk_roots.specs.Tables.{RegionsNamed, Indexed, Marked, marked-more, marked-not, marked-is, line-none, line-here}
+use Rattle.walk_roots.specs.Visit.{ways, listed, unseen, unseen-same, unseen-set, unseen-most, WalkStands, RootsLow, WalkReady, RootsVisited, ahead, ahead-all, listed-same, listed-more}
 
 -- a ctrl line that was found, or none
 module _ (F : Func) (r : ℕ) where
@@ -33,7 +33,7 @@ module _ (F : Func) (r : ℕ) where
   no-ways e h = ap targetsOf (subst (λ (y : CtrlAt). CtrlIs y F r) e h)
 
 -- a target of a root names a region
-pub way-low : {F : Func} {w : List ℕ} → Named F → Indexed F w → (r : ℕ) → r < 128 → (i : ℕ) → i < length (ways F r) → getD (ways F r) i 0 < length (F .regions)
+pub way-low : {F : Func} {w : List ℕ} → RegionsNamed F → Indexed F w → (r : ℕ) → r < 128 → (i : ℕ) → i < length (ways F r) → getD (ways F r) i 0 < length (F .regions)
 way-low {F} {w} h k r l i b = go (getD w (linesAt + r) 0) refl
   where
     go : (v : ℕ) → getD w (linesAt + r) 0 ≡ v → getD (ways F r) i 0 < length (F .regions)
@@ -50,13 +50,13 @@ along F k ts s = visits (λ t x. visit F k t x) ts s
 -- what is left of the targets of r
 pub record Left (F : Func) (r k : ℕ) (s : Seen) (i : ℕ) (work : List ℕ) (at : ℕ) : Type 0 where
   pub now : Seen
-  pub stands : Stands work at now
+  pub stands : WalkStands work at now
   pub rest : along F k (reverse (ways F r)) s ≡ along F k (ahead (ways F r) i) now
 
 -- the loop of a visit: r is marked in w, and targets from i on are visited
 pub record Turn (func : List ℕ) (r n : ℕ) (w : List ℕ) (i : ℕ) (work : List ℕ) (at : ℕ) : Type 0 where
   pub tables : Tables func
-  pub named : Named (funcOf func)
+  pub named : RegionsNamed (funcOf func)
   pub known : r < length (funcOf func .regions)
   pub within : i ≤ length (ways (funcOf func) r)
   pub size : tablesEnd ≤ length w
@@ -66,12 +66,12 @@ pub record Turn (func : List ℕ) (r n : ℕ) (w : List ℕ) (i : ℕ) (work : L
   pub full : n + unseen w (length (funcOf func .regions)) < length (funcOf func .regions)
   pub room : at + unseen work (length (funcOf func .regions)) ≤ n + unseen w (length (funcOf func .regions))
   pub less : unseen work (length (funcOf func .regions)) ≤ unseen w (length (funcOf func .regions))
-  pub low : Low (funcOf func) work at
+  pub low : RootsLow (funcOf func) work at
   pub above : Aside 0 tablesEnd w work
-  pub left : (k : ℕ) (s : Seen) → unseen w (length (funcOf func .regions)) ≤ k → Stands w n s → Left (funcOf func) r k s i work at
+  pub left : (k : ℕ) (s : Seen) → unseen w (length (funcOf func .regions)) ≤ k → WalkStands w n s → Left (funcOf func) r k s i work at
 
 -- a root is marked
-module _ {func w : List ℕ} {r n : ℕ} (p : Ready func w r n) {u : List ℕ} (e : u ≡ set w (marksAt + r) 1) where
+module _ {func w : List ℕ} {r n : ℕ} (p : WalkReady func w r n) {u : List ℕ} (e : u ≡ set w (marksAt + r) 1) where
   abbrev F : Func
   F = funcOf func
 
@@ -96,7 +96,7 @@ module _ {func w : List ℕ} {r n : ℕ} (p : Ready func w r n) {u : List ℕ} (
       unseen-set w r N (p .known) (omega (arith, p .known, p .named .few, p .size)) (p .fresh)
       ∙ ap (λ (z : List ℕ). suc (unseen z N)) (sym e)
 
-  marked : (s : Seen) → Stands w n s → Stands u n (record { seen = r ∷ s .seen; order = s .order })
+  marked : (s : Seen) → WalkStands w n s → WalkStands u n (record { seen = r ∷ s .seen; order = s .order })
   marked s k =
       let h = in-room in
       record {
@@ -138,13 +138,13 @@ module _ {func w : List ℕ} {r n : ℕ} (p : Ready func w r n) {u : List ℕ} (
     unseen-out : unseen out N ≡ unseen work N
     unseen-out = unseen-same work out N (λ x l. above (marksAt + x) (omega arith))
 
-    done : (k : ℕ) (s : Seen) → unseen u N ≤ k → Stands w n s → Stands out m (visit F (suc k) r s)
+    done : (k : ℕ) (s : Seen) → unseen u N ≤ k → WalkStands w n s → WalkStands out m (visit F (suc k) r s)
     done k s l d =
         let q = t .left k (record { seen = r ∷ s .seen; order = s .order }) l (marked s d) in
         let i-is : i ≡ 0 = omega arith in
         let none : within r (s .seen) ≡ false = marked-not (d .marks) r (omega (arith, p .known, p .named .few)) (p .fresh) in
         let v : along F k (reverse (ways F r)) (record { seen = r ∷ s .seen; order = s .order }) ≡ q .now = q .rest ∙ ap (λ (y : ℕ). along F k (ahead (ways F r) y) (q .now)) i-is in
-        subst (λ (y : Seen). Stands out m y)
+        subst (λ (y : Seen). WalkStands out m y)
         (sym (ap (λ (b : Bool). visitIf F b (λ t x. visit F k t x) r s) none ∙ ap (λ (y : Seen). after y) v))
         (record {
           marks = record { mark = λ x g. above (marksAt + x) (omega arith) ∙ q .stands .marks .mark x g };
@@ -158,7 +158,7 @@ module _ {func w : List ℕ} {r n : ℕ} (p : Ready func w r n) {u : List ℕ} (
         after : Seen → Seen
         after y = record { seen = y .seen; order = r ∷ y .order }
 
-    pub turn-done : Visited F w r n out m
+    pub turn-done : RootsVisited F w r n out m
     turn-done = record {
       reach = λ k s l d. go k s l d;
       room = omega (arith, t .room, unseen-out, fewer);
@@ -172,7 +172,7 @@ module _ {func w : List ℕ} {r n : ℕ} (p : Ready func w r n) {u : List ℕ} (
       above = subst (Aside 0 tablesEnd w) (sym eo) (aside-set (aside-more above-u (t .above)) (rootsEnd - 1 - at) r (omega arith) (omega arith));
     }
       where
-        go : (k : ℕ) (s : Seen) → unseen w N ≤ k → Stands w n s → Stands out m (visit F k r s)
+        go : (k : ℕ) (s : Seen) → unseen w N ≤ k → WalkStands w n s → WalkStands out m (visit F k r s)
         go zero s l d = absurd (omega (arith, fewer))
         go (suc k) s l d = done k s (omega (arith, fewer)) d
 
@@ -229,7 +229,7 @@ module _ {func : List ℕ} {r n : ℕ} {w : List ℕ} {i : ℕ} {work : List ℕ
 
       -- another is visited
       module _ (fresh : getD work (marksAt + x) 0 ≡ 0) where
-        pub turn-call : Ready func work x at
+        pub turn-call : WalkReady func work x at
         turn-call = record {
           tables = t .tables;
           named = t .named;
@@ -241,7 +241,7 @@ module _ {func : List ℕ} {r n : ℕ} {w : List ℕ} {i : ℕ} {work : List ℕ
           low = t .low;
         }
 
-        pub turn-visited : {out : List ℕ} {m : ℕ} → length out ≡ length work → Visited (funcOf func) work x at out m → Turn func r n w (i - 1) out m
+        pub turn-visited : {out : List ℕ} {m : ℕ} → length out ≡ length work → RootsVisited (funcOf func) work x at out m → Turn func r n w (i - 1) out m
         turn-visited z v = record {
           tables = t .tables;
           named = t .named;
@@ -262,7 +262,7 @@ module _ {func : List ℕ} {r n : ℕ} {w : List ℕ} {i : ℕ} {work : List ℕ
         }
 
 -- the walk begins at region 0
-pub ready-first : {func w : List ℕ} → Tables func → Named (funcOf func) → 0 < length (funcOf func .regions) → Indexed (funcOf func) w → Marked marksAt [] w → tablesEnd ≤ length w → Ready func w 0 0
+pub ready-first : {func w : List ℕ} → Tables func → RegionsNamed (funcOf func) → 0 < length (funcOf func .regions) → Indexed (funcOf func) w → Marked marksAt [] w → tablesEnd ≤ length w → WalkReady func w 0 0
 ready-first {func} {w} t h some k m z = record {
   tables = t;
   named = h;
@@ -275,7 +275,7 @@ ready-first {func} {w} t h some k m z = record {
 }
 
 -- and what it leaves is the roots
-module _ {F : Func} {w u : List ℕ} {n : ℕ} (v : Visited F w 0 0 u n) where
+module _ {F : Func} {w u : List ℕ} {n : ℕ} (v : RootsVisited F w 0 0 u n) where
   pub order-is : Marked marksAt [] w → listed u n ≡ roots F
   unfolding roots
   order-is m =

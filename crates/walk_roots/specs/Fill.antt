@@ -7,7 +7,7 @@ use native.Mathlib.Omega.{arith}
 use lib.Dec.{eqb, lit<}
 use lib.ListN.{length, getD, set, drop, length-set}
 use lib.Seq.{drop-length}
-use Rattle.laws.specs.Lists.{gather, within, distinct, keys}
+use Rattle.general_laws.specs.Lists.{gather, within, distinct, keys}
 use Rattle.lifting.specs.Ast.{block, Node, ControlInst, Func}
 use Rattle.lifting.specs.Parts.{nodeOf, childrenOf, childList}
 use Rattle.lifting.specs.Control.{isRoot}
@@ -16,12 +16,12 @@ use Rattle.func.specs.Layout.{ctrls}
 use Rattle.func.specs.Tables.{Tables, ctrlLine, ctrl-total}
 use Rattle.work.specs.Layout.{linesAt, childrenAt, tablesEnd, marksAt}
 use Rattle.work.specs.Aside.{Aside, aside-none, aside-more, aside-set}
-use Rattle.walk_roots.specs.Tables.{Named, Blank, LinesFrom, Indexed, Marked, blank-lines, marked-more, drop-one, lines-more, once-more}
+use Rattle.walk_roots.specs.Tables.{RegionsNamed, TablesBlank, LinesFrom, Indexed, Marked, blank-lines, marked-more, drop-one, lines-more, once-more}
 
 -- the ctrl lines from line i on are in the table
 pub record Filling (func w : List ℕ) (i : ℕ) (work : List ℕ) (once : Bool) : Type 0 where
   pub tables : Tables func
-  pub named : Named (funcOf func)
+  pub named : RegionsNamed (funcOf func)
   pub size : tablesEnd ≤ length w
   pub below : i ≤ length (funcOf func .ctrls)
   pub same : length work ≡ length w
@@ -29,7 +29,7 @@ pub record Filling (func w : List ℕ) (i : ℕ) (work : List ℕ) (once : Bool)
   pub lines : LinesFrom (funcOf func) i work
   pub is : once ≡ distinct (keys (drop i (funcOf func .ctrls)))
 
-pub fill-first : {func w : List ℕ} → Tables func → Named (funcOf func) → tablesEnd ≤ length w → Blank w → {i : ℕ} → i ≡ length (funcOf func .ctrls) → Filling func w i w true
+pub fill-first : {func w : List ℕ} → Tables func → RegionsNamed (funcOf func) → tablesEnd ≤ length w → TablesBlank w → {i : ℕ} → i ≡ length (funcOf func .ctrls) → Filling func w i w true
 fill-first {func} {w} t h z b {i} e = record {
   tables = t;
   named = h;
@@ -90,7 +90,7 @@ fill-done {func} {w} {i} {work} f z =
 -- the children of node n from child i on are marked
 pub record Marking (func : List ℕ) (n : ℕ) (w : List ℕ) (i : ℕ) (work : List ℕ) : Type 0 where
   pub tables : Tables func
-  pub named : Named (funcOf func)
+  pub named : RegionsNamed (funcOf func)
   pub known : n < length (funcOf func .nodes)
   pub size : tablesEnd ≤ length w
   pub below : i ≤ length (childrenOf (nodeOf (funcOf func) n))
@@ -98,7 +98,7 @@ pub record Marking (func : List ℕ) (n : ℕ) (w : List ℕ) (i : ℕ) (work : 
   pub aside : Aside childrenAt marksAt w work
   pub marks : (l : List ℕ) → Marked childrenAt l w → Marked childrenAt (drop i (childrenOf (nodeOf (funcOf func) n)) ++ l) work
 
-pub marking-first : {func w : List ℕ} {n : ℕ} → Tables func → Named (funcOf func) → n < length (funcOf func .nodes) → tablesEnd ≤ length w
+pub marking-first : {func w : List ℕ} {n : ℕ} → Tables func → RegionsNamed (funcOf func) → n < length (funcOf func .nodes) → tablesEnd ≤ length w
     → {i : ℕ} → i ≡ length (childrenOf (nodeOf (funcOf func) n)) → Marking func n w i w
 marking-first {func} {w} {n} t h k z {i} e = record {
   tables = t;
@@ -143,14 +143,14 @@ module _ {func : List ℕ} {n : ℕ} {w : List ℕ} {i : ℕ} {work : List ℕ} 
 -- the children of the nodes from node i on are
 pub record Nodes (func w : List ℕ) (i : ℕ) (work : List ℕ) : Type 0 where
   pub tables : Tables func
-  pub named : Named (funcOf func)
+  pub named : RegionsNamed (funcOf func)
   pub size : tablesEnd ≤ length w
   pub below : i ≤ length (funcOf func .nodes)
   pub same : length work ≡ length w
   pub aside : Aside childrenAt marksAt w work
   pub marks : Marked childrenAt (gather childrenOf (drop i (funcOf func .nodes))) work
 
-pub nodes-first : {func w : List ℕ} → Tables func → Named (funcOf func) → tablesEnd ≤ length w → Marked childrenAt [] w → {i : ℕ} → i ≡ length (funcOf func .nodes) → Nodes func w i w
+pub nodes-first : {func w : List ℕ} → Tables func → RegionsNamed (funcOf func) → tablesEnd ≤ length w → Marked childrenAt [] w → {i : ℕ} → i ≡ length (funcOf func .nodes) → Nodes func w i w
 nodes-first {func} {w} t h z m {i} e = record {
   tables = t;
   named = h;

@@ -15,7 +15,7 @@ use lib.Dec.{eqb}
 use lib.ListN.{length, getD, set, drop}
 use lib.Seq.{drop-cons, drop-length, getD-set-same, getD-set-other}
 use borrow.Author.Tests.{ne-eqb}
-use Rattle.laws.specs.Lists.{choose, choose-yes, choose-no, find, within, distinct, keys}
+use Rattle.general_laws.specs.Lists.{choose, choose-yes, choose-no, find, within, distinct, keys}
 use Rattle.lifting.specs.Ast.{unreachable, ControlInst, Func}
 use Rattle.lifting.specs.Parts.{nodeOf, childrenOf, ctrlOf}
 use Rattle.func.specs.Tables.{ctrlLine}
@@ -24,7 +24,7 @@ use Rattle.work.specs.Layout.{linesAt, childrenAt, tablesEnd, marksAt}
 use Rattle.work.specs.Aside.{Aside, split, Cleared}
 
 -- Children, ctrl lines and targets name regions, of which there are at most 128.
-pub record Named (F : Func) : Type 0 where
+pub record RegionsNamed (F : Func) : Type 0 where
   pub few : length (F .regions) ≤ 128
   pub child : (n i : ℕ) → n < length (F .nodes) → i < length (childrenOf (nodeOf F n)) → getD (childrenOf (nodeOf F n)) i 0 < length (F .regions)
   pub line : (c : ℕ) → c < length (F .ctrls) → ctrlLine F c .0 < length (F .regions)
@@ -35,7 +35,7 @@ abbrev pub noLine : ℕ × ControlInst
 noLine = (0, record { attrs = 0; kind = unreachable; ins = []; to = []; vals = [] })
 
 -- the words of the three tables are 0
-pub record Blank (w : List ℕ) : Type 0 where
+pub record TablesBlank (w : List ℕ) : Type 0 where
   pub word : (x : ℕ) → linesAt ≤ x → x < tablesEnd → getD w x 0 ≡ 0
 
 -- the word of a region in a list of lines whose numbers begin at i: 0 where it has none, else 1 + the number of its first
@@ -57,10 +57,10 @@ pub record Marked (b : ℕ) (l w : List ℕ) : Type 0 where
 
 -- ---- words that are 0
 
-pub blank-cleared : {w u : List ℕ} → Cleared linesAt tablesEnd w u → Blank u
+pub blank-cleared : {w u : List ℕ} → Cleared linesAt tablesEnd w u → TablesBlank u
 blank-cleared k = record { word = k .blank }
 
-module _ {w : List ℕ} (k : Blank w) where
+module _ {w : List ℕ} (k : TablesBlank w) where
   pub blank-marked : (b : ℕ) → linesAt ≤ b → b + 128 ≤ tablesEnd → Marked b [] w
   blank-marked b a l = record { mark = λ x h. k .word (b + x) (omega arith) (omega arith) }
 

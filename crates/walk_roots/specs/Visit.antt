@@ -12,7 +12,7 @@ use lib.Dec.{eqb}
 use lib.ListN.{length, getD, set}
 use lib.Seq.{getD-set-same, getD-set-other}
 use borrow.Author.Tests.{eq-eqb, ne-eqb}
-use Rattle.laws.specs.Lists.{tabulate}
+use Rattle.general_laws.specs.Lists.{tabulate}
 use Rattle.lifting.specs.Ast.{Func}
 use Rattle.lifting.specs.Parts.{ctrlOf}
 use Rattle.lifting.specs.Order.{Seen, targetsOf, visit}
@@ -20,7 +20,7 @@ use Rattle.func.specs.Decode.{funcOf}
 use Rattle.func.specs.Tables.{Tables}
 use Rattle.work.specs.Layout.{rootsEnd, linesAt, marksAt, tablesEnd}
 use Rattle.work.specs.Aside.{split, Aside}
-use Rattle.walk_roots.specs.Tables.{Named, Indexed, Marked}
+use Rattle.walk_roots.specs.Tables.{RegionsNamed, Indexed, Marked}
 
 -- the targets of a root
 abbrev pub ways : Func → ℕ → List ℕ
@@ -36,32 +36,32 @@ unseen w zero = 0
 unseen w (suc n) = cond (eqb (getD w (marksAt + n) 0) 0) 1 0 + unseen w n
 
 -- the walk has seen and done what the words say
-pub record Stands (w : List ℕ) (n : ℕ) (s : Seen) : Type 0 where
+pub record WalkStands (w : List ℕ) (n : ℕ) (s : Seen) : Type 0 where
   pub marks : Marked marksAt (s .seen) w
   pub order : listed w n ≡ s .order
 
 -- each of the n words before `rootsEnd` names a region
-pub record Low (F : Func) (w : List ℕ) (n : ℕ) : Type 0 where
+pub record RootsLow (F : Func) (w : List ℕ) (n : ℕ) : Type 0 where
   pub word : (x : ℕ) → rootsEnd - n ≤ x → x < rootsEnd → getD w x 0 < length (F .regions)
 
 -- what a visit of r asks: there is room for every region that is not marked
-pub record Ready (func w : List ℕ) (r n : ℕ) : Type 0 where
+pub record WalkReady (func w : List ℕ) (r n : ℕ) : Type 0 where
   pub tables : Tables func
-  pub named : Named (funcOf func)
+  pub named : RegionsNamed (funcOf func)
   pub lines : Indexed (funcOf func) w
   pub size : tablesEnd ≤ length w
   pub known : r < length (funcOf func .regions)
   pub fresh : getD w (marksAt + r) 0 ≡ 0
   pub room : n + unseen w (length (funcOf func .regions)) ≤ length (funcOf func .regions)
-  pub low : Low (funcOf func) w n
+  pub low : RootsLow (funcOf func) w n
 
 -- what it leaves: any depth from the count of the regions that are not marked on says the same
-pub record Visited (F : Func) (w : List ℕ) (r n : ℕ) (u : List ℕ) (m : ℕ) : Type 0 where
-  pub reach : (k : ℕ) (s : Seen) → unseen w (length (F .regions)) ≤ k → Stands w n s → Stands u m (visit F k r s)
+pub record RootsVisited (F : Func) (w : List ℕ) (r n : ℕ) (u : List ℕ) (m : ℕ) : Type 0 where
+  pub reach : (k : ℕ) (s : Seen) → unseen w (length (F .regions)) ≤ k → WalkStands w n s → WalkStands u m (visit F k r s)
   pub room : m + unseen u (length (F .regions)) ≤ n + unseen w (length (F .regions))
   pub less : unseen u (length (F .regions)) ≤ unseen w (length (F .regions))
   pub lines : (x : ℕ) → x < 128 → getD u (linesAt + x) 0 ≡ getD w (linesAt + x) 0
-  pub low : Low F u m
+  pub low : RootsLow F u m
   pub above : Aside 0 tablesEnd w u
 
 -- ---- regions without a mark

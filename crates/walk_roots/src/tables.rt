@@ -16,14 +16,14 @@ ghost use mathlib.Core.List.{List, [], _++_};
 ghost use Prim.Native.Nat.{ℕ, _+_, _≤_, _<_};
 ghost use lib.Dec.{eqb};
 ghost use lib.ListN.{length, getD, set};
-ghost use Rattle.laws.specs.Lists.{distinct, keys};
+ghost use Rattle.general_laws.specs.Lists.{distinct, keys};
 ghost use Rattle.lifting.specs.Parts.{nodeOf, childrenOf, childList};
 ghost use Rattle.func.specs.Decode.{funcOf};
 ghost use Rattle.func.specs.Tables.{Tables};
 ghost use Rattle.func.specs.Search.{CtrlIs};
 ghost use Rattle.work.specs.Layout.{linesAt, childrenAt, marksAt, tablesEnd};
 ghost use Rattle.work.specs.Aside.{Aside};
-ghost use Rattle.walk_roots.specs.Tables.{Named, Blank, Indexed, Marked};
+ghost use Rattle.walk_roots.specs.Tables.{RegionsNamed, TablesBlank, Indexed, Marked};
 
 // Line c is region r's: whether no later line is.
 fn put_line(work: &mut [u32], r: usize, c: usize) -> bool
@@ -40,8 +40,8 @@ fn put_line(work: &mut [u32], r: usize, c: usize) -> bool
 // The lines from the last to the first, so that a region's first line stays: whether no region has two.
 fn put_lines(func: &[u32], work: &mut [u32]) -> bool
     requires { ⌜ Tables (now func) ⌝ }
-    requires { ⌜ Named (funcOf (now func)) ⌝ }
-    requires { ⌜ (tablesEnd ≤ length (now work)) × Blank (now work) ⌝ }
+    requires { ⌜ RegionsNamed (funcOf (now func)) ⌝ }
+    requires { ⌜ (tablesEnd ≤ length (now work)) × TablesBlank (now work) ⌝ }
     ensures { λ x. ⌜ x ≡ distinct (keys (funcOf (now (func .entry)) .ctrls)) ⌝ }
     ensures { λ _. ⌜ Indexed (funcOf (now (func .entry))) (now (work .exit)) ⌝ }
     ensures { λ _. ⌜ Aside linesAt childrenAt (now (work .entry)) (now (work .exit)) ⌝ }
@@ -62,7 +62,7 @@ fn put_lines(func: &[u32], work: &mut [u32]) -> bool
 // The table of ctrl lines by region stands, and no region is marked: whether no region has two lines.
 pub fn index(func: &[u32], work: &mut [u32]) -> bool
     requires { ⌜ Tables (now func) ⌝ }
-    requires { ⌜ Named (funcOf (now func)) ⌝ }
+    requires { ⌜ RegionsNamed (funcOf (now func)) ⌝ }
     requires { ⌜ tablesEnd ≤ length (now work) ⌝ }
     ensures { λ x. ⌜ x ≡ distinct (keys (funcOf (now (func .entry)) .ctrls)) ⌝ }
     ensures { λ _. ⌜ Indexed (funcOf (now (func .entry))) (now (work .exit)) ⌝ }
@@ -90,7 +90,7 @@ pub fn ctrl_at(func: &[u32], work: &[u32], r: usize) -> CtrlAt
 // The children of node n are marked.
 fn mark_node(func: &[u32], n: usize, work: &mut [u32])
     requires { ⌜ Tables (now func) ⌝ }
-    requires { ⌜ Named (funcOf (now func)) ⌝ }
+    requires { ⌜ RegionsNamed (funcOf (now func)) ⌝ }
     requires { ⌜ (n < length (funcOf (now func) .nodes)) × (tablesEnd ≤ length (now work)) ⌝ }
     ensures { λ _. ⌜ ((l : List ℕ) → Marked childrenAt l (now (work .entry)) → Marked childrenAt (childrenOf (nodeOf (funcOf (now (func .entry))) n) ++ l) (now (work .exit))) ⌝ }
     ensures { λ _. ⌜ Aside childrenAt marksAt (now (work .entry)) (now (work .exit)) ⌝ }
@@ -107,7 +107,7 @@ fn mark_node(func: &[u32], n: usize, work: &mut [u32])
 // The children of each node are.
 pub fn mark_nodes(func: &[u32], work: &mut [u32])
     requires { ⌜ Tables (now func) ⌝ }
-    requires { ⌜ Named (funcOf (now func)) ⌝ }
+    requires { ⌜ RegionsNamed (funcOf (now func)) ⌝ }
     requires { ⌜ (tablesEnd ≤ length (now work)) × Marked childrenAt [] (now work) ⌝ }
     ensures { λ _. ⌜ Marked childrenAt (childList (funcOf (now (func .entry)))) (now (work .exit)) ⌝ }
     ensures { λ _. ⌜ Aside childrenAt marksAt (now (work .entry)) (now (work .exit)) ⌝ }

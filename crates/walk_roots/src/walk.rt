@@ -16,8 +16,8 @@ ghost use Rattle.func.specs.Decode.{funcOf};
 ghost use Rattle.func.specs.Tables.{Tables};
 ghost use Rattle.work.specs.Layout.{rootsEnd, marksAt, tablesEnd, workNeed};
 ghost use Rattle.work.specs.Aside.{Aside};
-ghost use Rattle.walk_roots.specs.Tables.{Named, Indexed, Marked};
-ghost use Rattle.walk_roots.specs.Visit.{ways, listed, Low, Ready, Visited};
+ghost use Rattle.walk_roots.specs.Tables.{RegionsNamed, Indexed, Marked};
+ghost use Rattle.walk_roots.specs.Visit.{ways, listed, RootsLow, WalkReady, RootsVisited};
 
 // How many targets root r has.
 fn way_count(func: &[u32], work: &[u32], r: usize) -> usize
@@ -76,8 +76,8 @@ fn leave(work: &mut [u32], n: usize, r: usize) -> usize
 
 // Walks from root r, which is not marked, with n roots done: how many are done then.
 fn visit(func: &[u32], work: &mut [u32], r: usize, n: usize) -> usize
-    requires { ⌜ Ready (now func) (now work) r n ⌝ }
-    ensures { λ m. ⌜ Visited (funcOf (now (func .entry))) (now (work .entry)) r n (now (work .exit)) m ⌝ }
+    requires { ⌜ WalkReady (now func) (now work) r n ⌝ }
+    ensures { λ m. ⌜ RootsVisited (funcOf (now (func .entry))) (now (work .entry)) r n (now (work .exit)) m ⌝ }
     ensures { λ _. ⌜ length (now (work .exit)) ≡ length (now (work .entry)) ⌝ }
 {
     set_mark(work, r);
@@ -96,13 +96,13 @@ fn visit(func: &[u32], work: &mut [u32], r: usize, n: usize) -> usize
 // The roots, where the table of ctrl lines stands and none is marked: how many they are.
 pub fn order(func: &[u32], work: &mut [u32]) -> usize
     requires { ⌜ Tables (now func) ⌝ }
-    requires { ⌜ Named (funcOf (now func)) ⌝ }
+    requires { ⌜ RegionsNamed (funcOf (now func)) ⌝ }
     requires { ⌜ 0 < length (funcOf (now func) .regions) ⌝ }
     requires { ⌜ Indexed (funcOf (now func)) (now work) ⌝ }
     requires { ⌜ Marked marksAt [] (now work) × (tablesEnd ≤ length (now work)) ⌝ }
     ensures { λ n. ⌜ listed (now (work .exit)) n ≡ roots (funcOf (now (func .entry))) ⌝ }
     ensures { λ n. ⌜ n ≤ length (funcOf (now (func .entry)) .regions) ⌝ }
-    ensures { λ n. ⌜ Low (funcOf (now (func .entry))) (now (work .exit)) n ⌝ }
+    ensures { λ n. ⌜ RootsLow (funcOf (now (func .entry))) (now (work .exit)) n ⌝ }
     ensures { λ _. ⌜ Indexed (funcOf (now (func .entry))) (now (work .exit)) ⌝ }
     ensures { λ _. ⌜ Aside 0 tablesEnd (now (work .entry)) (now (work .exit)) ⌝ }
     ensures { λ _. ⌜ length (now (work .exit)) ≡ length (now (work .entry)) ⌝ }
@@ -114,12 +114,12 @@ pub fn order(func: &[u32], work: &mut [u32]) -> usize
 // walk are written.
 pub fn reached(func: &[u32], work: &mut [u32]) -> usize
     requires { ⌜ Tables (now func) ⌝ }
-    requires { ⌜ Named (funcOf (now func)) ⌝ }
+    requires { ⌜ RegionsNamed (funcOf (now func)) ⌝ }
     requires { ⌜ 0 < length (funcOf (now func) .regions) ⌝ }
     requires { ⌜ workNeed ≤ length (now work) ⌝ }
     ensures { λ n. ⌜ listed (now (work .exit)) n ≡ roots (funcOf (now (func .entry))) ⌝ }
     ensures { λ n. ⌜ n ≤ length (funcOf (now (func .entry)) .regions) ⌝ }
-    ensures { λ n. ⌜ Low (funcOf (now (func .entry))) (now (work .exit)) n ⌝ }
+    ensures { λ n. ⌜ RootsLow (funcOf (now (func .entry))) (now (work .exit)) n ⌝ }
     ensures { λ _. ⌜ Indexed (funcOf (now (func .entry))) (now (work .exit)) ⌝ }
     ensures { λ _. ⌜ Aside 0 tablesEnd (now (work .entry)) (now (work .exit)) ⌝ }
     ensures { λ _. ⌜ length (now (work .exit)) ≡ length (now (work .entry)) ⌝ }

@@ -5,7 +5,7 @@ use native.Mathlib.Omega.{arith}
 use lib.Dec.{lit≤}
 use borrow.Author.Needs.{needs}
 use borrow.Author.Tests.{not-true, not-false}
-use Rattle.laws.specs.Lists.{every, within, keys}
+use Rattle.general_laws.specs.Lists.{every, within, keys}
 use Rattle.func.specs.Decode.{funcOf}
 use Rattle.work.specs.Aside.{aside-more, aside-wider}
 use Rattle.walk_roots.specs.Tables.{marked-aside, indexed-aside}

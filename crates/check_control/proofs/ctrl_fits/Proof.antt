@@ -10,35 +10,14 @@ use borrow.Author.Needs.{needs}
 use Rattle.check_control.proofs.ctrl_fits.Statement.{statement}
 use Rattle.check_control.proofs.ctrl_fits.Tie as tie
 
-targets-fit-requires : tie.Need-targets-fit-requires
-targets-fit-requires c κs = search needs
-
 returns : tie.Need-returns
 returns c = let a = c .before .before .before .before .args in ctrl-target (funcOf (a .func .now)) (ctrlLine (funcOf (a .func .now)) (a .c) .1) (sym (c .before .targets-fit .ensures) ∙ not-true (c .before .targets-fit .result) (c .if1 .taken))
-
-entries-distinct-requires : tie.Need-entries-distinct-requires
-entries-distinct-requires c κs = search needs
 
 returns-2 : tie.Need-returns-2
 returns-2 c = let a = c .before .before .before .before .before .before .args in ctrl-twice (funcOf (a .func .now)) (ctrlLine (funcOf (a .func .now)) (a .c) .1) (sym (c .before .before .before .targets-fit .ensures) ∙ not-false (c .before .before .before .targets-fit .result) (c .before .before .if1 .left)) (sym (c .before .entries-distinct .ensures) ∙ not-true (c .before .entries-distinct .result) (c .if2 .taken))
 
-entries-fit-requires : tie.Need-entries-fit-requires
-entries-fit-requires c κs = search needs
-
 returns-3 : tie.Need-returns-3
 returns-3 c = let a = c .before .before .before .before .before .before .before .before .args in ctrl-entry (funcOf (a .func .now)) (ctrlLine (funcOf (a .func .now)) (a .c) .1) (sym (c .before .before .before .before .before .targets-fit .ensures) ∙ not-false (c .before .before .before .before .before .targets-fit .result) (c .before .before .before .before .if1 .left)) (sym (c .before .before .before .entries-distinct .ensures) ∙ not-false (c .before .before .before .entries-distinct .result) (c .before .before .if2 .left)) (sym (c .before .entries-fit .ensures) ∙ not-true (c .before .entries-fit .result) (c .if3 .taken))
-
-ctrl-kind-requires : tie.Need-ctrl-kind-requires
-ctrl-kind-requires c κs = search needs
-
-ctrl-in-count-requires : tie.Need-ctrl-in-count-requires
-ctrl-in-count-requires c κs = search needs
-
-target-count-requires : tie.Need-target-count-requires
-target-count-requires c κs = search needs
-
-kind-fits-requires : tie.Need-kind-fits-requires
-kind-fits-requires c κs = search needs
 
 returns-4 : tie.Need-returns-4
 returns-4 c = let a = c .before .before .before .before .before .before .before .before .before .before .before .before .args in ctrl-is (funcOf (a .func .now)) (ctrlLine (funcOf (a .func .now)) (a .c) .1) (sym (c .before .before .before .before .before .before .before .before .before .targets-fit .ensures) ∙ not-false (c .before .before .before .before .before .before .before .before .before .targets-fit .result) (c .before .before .before .before .before .before .before .before .if1 .left)) (sym (c .before .before .before .before .before .before .before .entries-distinct .ensures) ∙ not-false (c .before .before .before .before .before .before .before .entries-distinct .result) (c .before .before .before .before .before .before .if2 .left)) (sym (c .before .before .before .before .before .entries-fit .ensures) ∙ not-false (c .before .before .before .before .before .entries-fit .result) (c .before .before .before .before .if3 .left)) (c .before .before .before .ctrl-kind .ensures) (c .before .before .ctrl-in-count .ensures) (c .before .target-count .ensures) (c .kind-fits .ensures)
@@ -47,14 +26,14 @@ pub ctrl-fits-spec : {M : Type 1} → statement M
 ctrl-fits-spec =
     tie.close
     (tie.spec
-    targets-fit-requires
+    (λ c κs. search needs)
     returns
-    entries-distinct-requires
+    (λ c κs. search needs)
     returns-2
-    entries-fit-requires
+    (λ c κs. search needs)
     returns-3
-    ctrl-kind-requires
-    ctrl-in-count-requires
-    target-count-requires
-    kind-fits-requires
+    (λ c κs. search needs)
+    (λ c κs. search needs)
+    (λ c κs. search needs)
+    (λ c κs. search needs)
     returns-4)

@@ -6,8 +6,8 @@ use native.Mathlib.Omega.{arith}
 use lib.ListN.{drop}
 use borrow.Author.Needs.{needs}
 use borrow.Author.Tests.{not-true, not-false}
-use Rattle.laws.specs.Every.{every-keys}
-use Rattle.laws.specs.Lists.{every, within, keys}
+use Rattle.general_laws.specs.Every.{every-keys}
+use Rattle.general_laws.specs.Lists.{every, within, keys}
 use Rattle.func.specs.Decode.{funcOf}
 use Rattle.func.specs.Tables.{ctrlLine}
 use Rattle.check_control.specs.Loops.{every-next, every-stop, every-done}

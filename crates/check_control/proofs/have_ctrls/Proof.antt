@@ -6,7 +6,7 @@ use native.Mathlib.Omega.{arith}
 use lib.ListN.{getD}
 use borrow.Author.Needs.{needs}
 use borrow.Author.Tests.{not-true, not-false}
-use Rattle.laws.specs.Lists.{every, within, keys, tabulate}
+use Rattle.general_laws.specs.Lists.{every, within, keys, tabulate}
 use Rattle.func.specs.Decode.{funcOf}
 use Rattle.work.specs.Layout.{rootsEnd}
 use Rattle.walk_roots.specs.Visit.{listed}
@@ -50,9 +50,6 @@ returns c =
     let s = c .before .before .before .before .before .before .before .before in
     sym (l .loop .inv ∙ tab-stop (λ r. within r (keys (funcOf (s .args .func .now) .ctrls))) (λ j. getD (s .args .work .now) j 0) (rootsEnd - s .args .n) (l .loop .i) (s .args .n) (omega arith) (ap (λ r. within r (keys (funcOf (s .args .func .now) .ctrls))) (sym (c .before .before .wide .ensures)) ∙ (sym (c .before .has-line .ensures) ∙ not-true (c .before .has-line .result) (c .if1 .taken))))
 
-add-i : tie.Need-add-i Inv-loop μ-loop
-add-i c = search needs
-
 loop-less : tie.Need-loop-less Inv-loop μ-loop
 loop-less c = omega arith
 
@@ -82,7 +79,7 @@ have-ctrls-spec =
     wide-requires
     has-line-requires
     returns
-    add-i
+    (λ c. search needs)
     loop-less
     loop-again
     returns-2)

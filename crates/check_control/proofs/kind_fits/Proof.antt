@@ -12,21 +12,6 @@ use Rattle.check_control.proofs.kind_fits.Tie as tie
 enum-told : tie.Need-enum-told
 enum-told c = search needs
 
-enum-told-2 : tie.Need-enum-told-2
-enum-told-2 c = search needs
-
-enum-told-3 : tie.Need-enum-told-3
-enum-told-3 c = search needs
-
-enum-told-4 : tie.Need-enum-told-4
-enum-told-4 c = search needs
-
-enum-told-5 : tie.Need-enum-told-5
-enum-told-5 c = search needs
-
-enum-told-6 : tie.Need-enum-told-6
-enum-told-6 c = search needs
-
 returns : tie.Need-returns
 returns c = let a = c .before .before .before .args in and-right (eqb (a .ins) 0) (eqb (a .to) 0) (eq-eqb (a .ins) 0 (c .if1 .taken)) ∙ sym (ap (λ k. kindTest k (a .ins) (a .to)) (c .before .enum-told .given .1))
 
@@ -65,11 +50,11 @@ kind-fits-spec =
     tie.close
     (tie.spec
     enum-told
-    enum-told-2
-    enum-told-3
-    enum-told-4
-    enum-told-5
-    enum-told-6
+    (λ c. search needs)
+    (λ c. search needs)
+    (λ c. search needs)
+    (λ c. search needs)
+    (λ c. search needs)
     returns
     returns-2
     returns-3

@@ -11,9 +11,6 @@ use borrow.Author.Needs.{needs}
 use Rattle.check_control.proofs.line_fits.Statement.{statement}
 use Rattle.check_control.proofs.line_fits.Tie as tie
 
-ctrl-region-requires : tie.Need-ctrl-region-requires
-ctrl-region-requires c κs = search needs
-
 is-root-requires : tie.Need-is-root-requires
 is-root-requires c κs =
     let s = c .before .before .before in
@@ -24,12 +21,9 @@ is-root-requires c κs =
 returns : tie.Need-returns
 returns c = let a = c .before .before .before .before .before .args in line-child (funcOf (a .func .now)) (ctrlLine (funcOf (a .func .now)) (a .c)) (ap (isRoot (funcOf (a .func .now))) (sym (c .before .before .ctrl-region .ensures)) ∙ (sym (c .before .is-root .ensures) ∙ not-true (c .before .is-root .result) (c .if1 .taken)))
 
-ctrl-fits-requires : tie.Need-ctrl-fits-requires
-ctrl-fits-requires c κs = search needs
-
 returns-2 : tie.Need-returns-2
 returns-2 c = let a = c .before .before .before .before .before .before .args in line-is (funcOf (a .func .now)) (ctrlLine (funcOf (a .func .now)) (a .c)) (ap (isRoot (funcOf (a .func .now))) (sym (c .before .before .before .ctrl-region .ensures)) ∙ (sym (c .before .before .is-root .ensures) ∙ not-false (c .before .before .is-root .result) (c .before .if1 .left))) (c .ctrl-fits .ensures)
 
 pub line-fits-spec : {M : Type 1} → statement M
 line-fits-spec =
-    tie.close (tie.spec ctrl-region-requires is-root-requires returns ctrl-fits-requires returns-2)
+    tie.close (tie.spec (λ c κs. search needs) is-root-requires returns (λ c κs. search needs) returns-2)

@@ -6,14 +6,8 @@ use Rattle.check_counts.proofs.Laws.{region-in, ref-in, last-in, ends-n
 use Rattle.check_counts.proofs.ends_in_exit.Statement.{statement}
 use Rattle.check_counts.proofs.ends_in_exit.Tie as tie
 
-row-nodes-requires : tie.Need-row-nodes-requires
-row-nodes-requires c κs = search needs
-
 returns : tie.Need-returns
 returns c = let k = c .before in let a = k .before .before .args in ends-none (a .func .now) (a .c) (k .row-nodes .ensures) (c .if1 .taken)
-
-sub-row-node : tie.Need-sub-row-node
-sub-row-node c = search needs
 
 row-node-requires : tie.Need-row-node-requires
 row-node-requires c κs =
@@ -38,9 +32,9 @@ pub ends-in-exit-spec : {M : Type 1} → statement M
 ends-in-exit-spec =
     tie.close
     (tie.spec
-    row-nodes-requires
+    (λ c κs. search needs)
     returns
-    sub-row-node
+    (λ c. search needs)
     row-node-requires
     row-kind-requires
     returns-2)

@@ -7,11 +7,11 @@ use lib.Dec.{ltb}
 use lib.ListN.{length}
 use borrow.Author.Needs.{needs}
 use borrow.Author.Tests.{lt-ltb, le-ltb}
-use Rattle.laws.specs.Lists.{every}
+use Rattle.general_laws.specs.Lists.{every}
 use Rattle.lifting.specs.Ast.{Decl}
 use Rattle.func.specs.Decode.{funcOf}
 use Rattle.func.specs.Kinds.{declFrom}
-use Rattle.laws.specs.Every.{Rest, rest-first, rest-end, every-next, every-stop}
+use Rattle.general_laws.specs.Every.{Rest, rest-first, rest-end, every-next, every-stop}
 use Rattle.check_first.specs.Lines.{declsOf}
 use Rattle.check_first.proofs.decls_below.Statement.{statement}
 use Rattle.check_first.proofs.decls_below.Tie as tie

@@ -5,7 +5,7 @@ use borrow.Author.Needs.{needs}
 use borrow.Author.Tests.{not-true, not-false}
 use Rattle.func.specs.Decode.{funcOf}
 use Rattle.check_first.specs.Lines.{first-above}
-use Rattle.check_first.proofs.Laws.{stops, goes-on}
+use Rattle.check_first.proofs.Laws.{stops, line-goes-on}
 use Rattle.check_first.proofs.first_fits.Statement.{statement}
 use Rattle.check_first.proofs.first_fits.Tie as tie
 
@@ -19,7 +19,7 @@ returns-2 : tie.Need-returns-2
 returns-2 c =
     let h = c .before .before in
     let s = h .before .before .before in
-    goes-on (h .before .head-below .ensures) (not-false _ (h .if1 .left))
+    line-goes-on (h .before .head-below .ensures) (not-false _ (h .if1 .left))
     (stops _ (c .before .lines-below .ensures) (not-true _ (c .if2 .taken)))
     ∙ sym (first-above (funcOf (s .args .func .now)) (s .args .first))
 
@@ -28,8 +28,8 @@ returns-3 c =
     let k = c .before .before in
     let h = k .before .before in
     let s = h .before .before .before in
-    goes-on (h .before .head-below .ensures) (not-false _ (h .if1 .left))
-    (goes-on (k .before .lines-below .ensures) (not-false _ (k .if2 .left))
+    line-goes-on (h .before .head-below .ensures) (not-false _ (h .if1 .left))
+    (line-goes-on (k .before .lines-below .ensures) (not-false _ (k .if2 .left))
     (stops _ (c .before .lines-below2 .ensures) (not-true _ (c .if3 .taken))))
     ∙ sym (first-above (funcOf (s .args .func .now)) (s .args .first))
 
@@ -39,9 +39,9 @@ returns-4 c =
     let k = p .before .before in
     let h = k .before .before in
     let s = h .before .before .before in
-    goes-on (h .before .head-below .ensures) (not-false _ (h .if1 .left))
-    (goes-on (k .before .lines-below .ensures) (not-false _ (k .if2 .left))
-    (goes-on (p .before .lines-below2 .ensures) (not-false _ (p .if3 .left))
+    line-goes-on (h .before .head-below .ensures) (not-false _ (h .if1 .left))
+    (line-goes-on (k .before .lines-below .ensures) (not-false _ (k .if2 .left))
+    (line-goes-on (p .before .lines-below2 .ensures) (not-false _ (p .if3 .left))
     (stops _ (c .before .lines-below3 .ensures) (not-true _ (c .if4 .taken)))))
     ∙ sym (first-above (funcOf (s .args .func .now)) (s .args .first))
 
@@ -52,10 +52,10 @@ returns-5 c =
     let k = p .before .before in
     let h = k .before .before in
     let s = h .before .before .before in
-    goes-on (h .before .head-below .ensures) (not-false _ (h .if1 .left))
-    (goes-on (k .before .lines-below .ensures) (not-false _ (k .if2 .left))
-    (goes-on (p .before .lines-below2 .ensures) (not-false _ (p .if3 .left))
-    (goes-on (r .before .lines-below3 .ensures) (not-false _ (r .if4 .left))
+    line-goes-on (h .before .head-below .ensures) (not-false _ (h .if1 .left))
+    (line-goes-on (k .before .lines-below .ensures) (not-false _ (k .if2 .left))
+    (line-goes-on (p .before .lines-below2 .ensures) (not-false _ (p .if3 .left))
+    (line-goes-on (r .before .lines-below3 .ensures) (not-false _ (r .if4 .left))
     (stops _ (c .before .lines-below4 .ensures) (not-true _ (c .if5 .taken))))))
     ∙ sym (first-above (funcOf (s .args .func .now)) (s .args .first))
 
@@ -67,11 +67,11 @@ returns-6 c =
     let k = p .before .before in
     let h = k .before .before in
     let s = h .before .before .before in
-    goes-on (h .before .head-below .ensures) (not-false _ (h .if1 .left))
-    (goes-on (k .before .lines-below .ensures) (not-false _ (k .if2 .left))
-    (goes-on (p .before .lines-below2 .ensures) (not-false _ (p .if3 .left))
-    (goes-on (r .before .lines-below3 .ensures) (not-false _ (r .if4 .left))
-    (goes-on (n .before .lines-below4 .ensures) (not-false _ (n .if5 .left))
+    line-goes-on (h .before .head-below .ensures) (not-false _ (h .if1 .left))
+    (line-goes-on (k .before .lines-below .ensures) (not-false _ (k .if2 .left))
+    (line-goes-on (p .before .lines-below2 .ensures) (not-false _ (p .if3 .left))
+    (line-goes-on (r .before .lines-below3 .ensures) (not-false _ (r .if4 .left))
+    (line-goes-on (n .before .lines-below4 .ensures) (not-false _ (n .if5 .left))
     (c .lines-below5 .ensures)))))
     ∙ sym (first-above (funcOf (s .args .func .now)) (s .args .first))
 

@@ -5,7 +5,7 @@ use native.Mathlib.Nat.{zero-add}
 use native.Mathlib.Omega.{arith}
 use borrow.Author.Needs.{needs}
 use borrow.Author.Tests.{not-true, not-false}
-use Rattle.laws.specs.Lists.{every, below, tabulate}
+use Rattle.general_laws.specs.Lists.{every, below, tabulate}
 use Rattle.func.specs.Decode.{funcOf}
 use Rattle.check_control.specs.Loops.{tab-first, tab-next, tab-stop, tab-done}
 use Rattle.check_first.specs.Lines.{lineTotal, lineBelow, linesBelow}

@@ -6,7 +6,7 @@ use native.Mathlib.Omega.{arith}
 use lib.ListN.{drop}
 use borrow.Author.Needs.{needs}
 use borrow.Author.Tests.{not-true, not-false}
-use Rattle.laws.specs.Lists.{every}
+use Rattle.general_laws.specs.Lists.{every}
 use Rattle.lifting.specs.Control.{targetsDiffer}
 use Rattle.func.specs.Decode.{funcOf}
 use Rattle.check_control.specs.Loops.{every-next, every-stop, every-done}

@@ -5,7 +5,7 @@ use Prim.Native.Nat.{_≤_, _<_, _+_, _-_, _/_}
 use native.Mathlib.Omega.{arith}
 use lib.ListN.{length}
 use borrow.Author.Needs.{needs}
-use Rattle.laws.specs.Lists.{gather}
+use Rattle.general_laws.specs.Lists.{gather}
 use Rattle.func.specs.Layout.{nodeRefs, nodes, regions}
 use Rattle.func.specs.Tables.{Within, word}
 use Rattle.check_tree.specs.Test.{numbers, childrenIn, kids}

@@ -8,7 +8,7 @@ use native.Mathlib.Omega.{arith}
 use lib.ListN.{length, length-set}
 use lib.Dec.{lit<}
 use borrow.Author.Needs.{needs}
-use Rattle.laws.specs.Lists.{gather, tabulate}
+use Rattle.general_laws.specs.Lists.{gather, tabulate}
 use Rattle.func.specs.Layout.{childRefs, nodes}
 use Rattle.func.specs.Store.{count}
 use Rattle.func.specs.Tables.{word}

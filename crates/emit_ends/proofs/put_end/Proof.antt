@@ -8,7 +8,7 @@ use borrow.Author.Needs.{needs}
 use Rattle.lifting.specs.Points.{Merge, Terminator}
 use Rattle.lifting.specs.Absorb.{mergeLabels}
 use Rattle.func.specs.Decode.{funcOf}
-use Rattle.laws.specs.Members.{All}
+use Rattle.general_laws.specs.Members.{All}
 use Rattle.lifting_runs.specs.Refers.{Named, refers}
 use Rattle.walk_points.specs.Numbers.{Small}
 use Rattle.terminators.specs.Kinds.{merge-of}
@@ -57,9 +57,6 @@ put-term-requires c κs =
       ),
     )
 
-same-length : tie.Need-same-length
-same-length c = search needs
-
 returns : tie.Need-returns
 returns c =
     let a = c .before .before .before .before .before .before .before .before .before .before .before .before .args in
@@ -72,4 +69,4 @@ returns c =
 
 pub put-end-spec : {M : Type 1} → statement M
 put-end-spec =
-    tie.close (tie.spec term-kind-requires put-merge-requires put-term-requires same-length returns)
+    tie.close (tie.spec term-kind-requires put-merge-requires put-term-requires (λ c. search needs) returns)

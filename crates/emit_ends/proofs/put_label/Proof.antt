@@ -13,18 +13,6 @@ use Rattle.emit_insts.specs.Parts.{frontItems, label-is}
 use Rattle.emit_ends.proofs.put_label.Statement.{statement}
 use Rattle.emit_ends.proofs.put_label.Tie as tie
 
-opcode-requires : tie.Need-opcode-requires
-opcode-requires c κs = search needs
-
-label-of-requires : tie.Need-label-of-requires
-label-of-requires c κs = search needs
-
-put-front-requires : tie.Need-put-front-requires
-put-front-requires c κs = search needs
-
-same-length : tie.Need-same-length
-same-length c = search needs
-
 returns : tie.Need-returns
 unfolding labelOf
 returns c =
@@ -37,4 +25,4 @@ returns c =
 
 pub put-label-spec : {M : Type 1} → statement M
 put-label-spec =
-    tie.close (tie.spec opcode-requires label-of-requires put-front-requires same-length returns)
+    tie.close (tie.spec (λ c κs. search needs) (λ c κs. search needs) (λ c κs. search needs) (λ c. search needs) returns)

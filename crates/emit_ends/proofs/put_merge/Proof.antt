@@ -13,9 +13,6 @@ use Rattle.emit_insts.specs.Parts.{front-same, merge-none, merge-one, merge-two
 use Rattle.emit_ends.proofs.put_merge.Statement.{statement}
 use Rattle.emit_ends.proofs.put_merge.Tie as tie
 
-merges-requires : tie.Need-merges-requires
-merges-requires c κs = search needs
-
 returns : tie.Need-returns
 returns c =
     let a = c .before .before .before .before .before .args in
@@ -24,15 +21,6 @@ returns c =
     let g = mergeOf (a .w) in
     let T = walkOf F in
     put-same (put-none (omega arith) (omega arith)) (merge-none F (a .first) T (kept T) g (omega arith))
-
-merge-control-requires : tie.Need-merge-control-requires
-merge-control-requires c κs = search needs
-
-opcode-requires : tie.Need-opcode-requires
-opcode-requires c κs = search needs
-
-put-front-requires : tie.Need-put-front-requires
-put-front-requires c κs = search needs
 
 put-merge-label-requires : tie.Need-put-merge-label-requires
 put-merge-label-requires c κs =
@@ -43,9 +31,6 @@ put-merge-label-requires c κs =
     let T = walkOf F in
     (p .0, (p .1, omega arith))
 
-same-length : tie.Need-same-length
-same-length c = search needs
-
 returns-2 : tie.Need-returns-2
 returns-2 c =
     let a = c .before .before .before .before .before .before .before .before .before .before .before .before .before .before .before .before .args in
@@ -55,12 +40,6 @@ returns-2 c =
     let T = walkOf F in
     put-same (put-more (put-same (c .before .before .before .before .before .before .put-front .ensures) (front-same _ (c .before .before .before .before .before .before .before .opcode .ensures) refl refl refl (ap (short selectionControl) (c .before .before .before .before .before .before .before .before .before .before .merge-control .ensures)))) (c .before .before .put-merge-label .ensures))
     (merge-one F (a .first) T (kept T) g (omega arith))
-
-opcode-requires-2 : tie.Need-opcode-requires-2
-opcode-requires-2 c κs = search needs
-
-put-front-requires-2 : tie.Need-put-front-requires-2
-put-front-requires-2 c κs = search needs
 
 put-merge-label-requires-2 : tie.Need-put-merge-label-requires-2
 put-merge-label-requires-2 c κs =
@@ -80,9 +59,6 @@ put-merge-label-requires-3 c κs =
     let T = walkOf F in
     (p .0, (p .1, omega arith))
 
-same-length-2 : tie.Need-same-length-2
-same-length-2 c = search needs
-
 returns-3 : tie.Need-returns-3
 returns-3 c =
     let a = c .before .before .before .before .before .before .before .before .before .before .before .before .before .before .before .before .before .before .before .before .args in
@@ -98,17 +74,17 @@ pub put-merge-spec : {M : Type 1} → statement M
 put-merge-spec =
     tie.close
     (tie.spec
-    merges-requires
+    (λ c κs. search needs)
     returns
-    merge-control-requires
-    opcode-requires
-    put-front-requires
+    (λ c κs. search needs)
+    (λ c κs. search needs)
+    (λ c κs. search needs)
     put-merge-label-requires
-    same-length
+    (λ c. search needs)
     returns-2
-    opcode-requires-2
-    put-front-requires-2
+    (λ c κs. search needs)
+    (λ c κs. search needs)
     put-merge-label-requires-2
     put-merge-label-requires-3
-    same-length-2
+    (λ c. search needs)
     returns-3)

@@ -7,7 +7,7 @@ use lib.ListN.{getD}
 use borrow.Author.Needs.{needs}
 use Rattle.lifting.specs.Points.{regionEntry}
 use Rattle.lifting.specs.Absorb.{mergeLabels}
-use Rattle.laws.specs.Members.{all-in, in-getD}
+use Rattle.general_laws.specs.Members.{all-in, in-getD}
 use Rattle.work.specs.Layout.{labelIdsAt}
 use Rattle.walk_points.specs.Numbers.{Small, number-low}
 use Rattle.terminators.specs.Kinds.{mergeOf}
@@ -16,9 +16,6 @@ use Rattle.emit_insts.specs.Ready.{label-at}
 use Rattle.emit_ends.proofs.put_merge_label.Statement.{statement}
 use Rattle.emit_ends.proofs.put_merge_label.Tie as tie
 
-merge-requires : tie.Need-merge-requires
-merge-requires c κs = search needs
-
 label-of-requires : tie.Need-label-of-requires
 label-of-requires c κs =
     let a = c .before .before .before .before .before .args in
@@ -26,12 +23,6 @@ label-of-requires c κs =
     let ps = mergeLabels (mergeOf (a .w)) in
     let s : Small (getD ps (a .k) (regionEntry 0)) = all-in Small ps (p .1 .0 .1) _ (in-getD ps (a .k) (regionEntry 0) (p .1 .1)) in
     (omega (arith, c .merge .ensures, number-low (getD ps (a .k) (regionEntry 0)) s), omega (arith, p .0 .laid .size))
-
-put-id-requires : tie.Need-put-id-requires
-put-id-requires c κs = search needs
-
-same-length : tie.Need-same-length
-same-length c = search needs
 
 returns : tie.Need-returns
 returns c =
@@ -44,4 +35,4 @@ returns c =
 
 pub put-merge-label-spec : {M : Type 1} → statement M
 put-merge-label-spec =
-    tie.close (tie.spec merge-requires label-of-requires put-id-requires same-length returns)
+    tie.close (tie.spec (λ c κs. search needs) label-of-requires (λ c κs. search needs) (λ c. search needs) returns)

@@ -7,34 +7,13 @@ use borrow.Author.Needs.{needs}
 use Rattle.lifting.specs.Walk.{walkOf}
 use Rattle.lifting.specs.Absorb.{kept}
 use Rattle.func.specs.Decode.{funcOf}
-use Rattle.laws.specs.Members.{All}
+use Rattle.general_laws.specs.Members.{All}
 use Rattle.lifting_runs.specs.Refers.{Named}
 use Rattle.terminators.specs.Kinds.{termOf}
 use Rattle.emit_words.specs.Put.{put-more, put-same}
 use Rattle.emit_insts.specs.Parts.{term-is}
 use Rattle.emit_ends.proofs.put_term.Statement.{statement}
 use Rattle.emit_ends.proofs.put_term.Tie as tie
-
-term-ins-requires : tie.Need-term-ins-requires
-term-ins-requires c κs = search needs
-
-value-count-requires : tie.Need-value-count-requires
-value-count-requires c κs = search needs
-
-targets-requires : tie.Need-targets-requires
-targets-requires c κs = search needs
-
-add-ids : tie.Need-add-ids
-add-ids c = search needs
-
-term-opcode-requires : tie.Need-term-opcode-requires
-term-opcode-requires c κs = search needs
-
-term-attrs-requires : tie.Need-term-attrs-requires
-term-attrs-requires c κs = search needs
-
-term-imms-requires : tie.Need-term-imms-requires
-term-imms-requires c κs = search needs
 
 put-front-requires : tie.Need-put-front-requires
 put-front-requires c κs =
@@ -58,9 +37,6 @@ put-targets-requires c κs =
     let F = funcOf (a .func .now) in
     (p .0, (p .1 .0 .1, p .1 .1 .0))
 
-same-length : tie.Need-same-length
-same-length c = search needs
-
 returns : tie.Need-returns
 returns c =
     let a = c .before .before .before .before .before .before .before .before .before .before .before .before .before .before .before .before .before .before .before .before .before .args in
@@ -75,15 +51,15 @@ pub put-term-spec : {M : Type 1} → statement M
 put-term-spec =
     tie.close
     (tie.spec
-    term-ins-requires
-    value-count-requires
-    targets-requires
-    add-ids
-    term-opcode-requires
-    term-attrs-requires
-    term-imms-requires
+    (λ c κs. search needs)
+    (λ c κs. search needs)
+    (λ c κs. search needs)
+    (λ c. search needs)
+    (λ c κs. search needs)
+    (λ c κs. search needs)
+    (λ c κs. search needs)
     put-front-requires
     put-values-requires
     put-targets-requires
-    same-length
+    (λ c. search needs)
     returns)

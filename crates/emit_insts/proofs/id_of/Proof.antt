@@ -10,8 +10,5 @@ value-id-requires c κs =
     let p = c .before .before .pre in
     (known-stands (p .0 .stands) (p .0 .laid .walked (p .1 .0) .walkable .shaped .targets .some-region) _ (p .1 .1), (p .0 .ids, (omega (arith, p .0 .laid .size), p .0 .low)))
 
-returns : tie.Need-returns
-returns c = search needs
-
 pub id-of-spec : {M : Type 1} → statement M
-id-of-spec = tie.close (tie.spec value-id-requires returns)
+id-of-spec = tie.close (tie.spec value-id-requires (λ c. search needs))

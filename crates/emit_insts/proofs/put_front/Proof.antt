@@ -8,27 +8,6 @@ use Rattle.emit_insts.specs.Parts.{frontItems}
 use Rattle.emit_insts.proofs.put_front.Statement.{statement}
 use Rattle.emit_insts.proofs.put_front.Tie as tie
 
-imm-count-requires : tie.Need-imm-count-requires
-imm-count-requires c κs = search needs
-
-cast-put-head : tie.Need-cast-put-head
-cast-put-head c = search needs
-
-put-head-requires : tie.Need-put-head-requires
-put-head-requires c κs = search needs
-
-put-imms-requires : tie.Need-put-imms-requires
-put-imms-requires c κs = search needs
-
-cast-put-word : tie.Need-cast-put-word
-cast-put-word c = search needs
-
-put-word-requires : tie.Need-put-word-requires
-put-word-requires c κs = search needs
-
-same-length : tie.Need-same-length
-same-length c = search needs
-
 returns : tie.Need-returns
 unfolding frontItems
 returns c =
@@ -39,11 +18,11 @@ pub put-front-spec : {M : Type 1} → statement M
 put-front-spec =
     tie.close
     (tie.spec
-    imm-count-requires
-    cast-put-head
-    put-head-requires
-    put-imms-requires
-    cast-put-word
-    put-word-requires
-    same-length
+    (λ c κs. search needs)
+    (λ c. search needs)
+    (λ c κs. search needs)
+    (λ c κs. search needs)
+    (λ c. search needs)
+    (λ c κs. search needs)
+    (λ c. search needs)
     returns)

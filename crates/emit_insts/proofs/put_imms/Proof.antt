@@ -19,18 +19,12 @@ Inv-loop func out₀ l n d₀ k₀ out d k = Loop (λ j. immItems (getD (immsOf 
 abbrev μ-loop : tie.MeasureT-loop
 μ-loop func out₀ l n d₀ k₀ out d k = n - k
 
-imm-count-requires : tie.Need-imm-count-requires Inv-loop μ-loop
-imm-count-requires c κs = search needs
-
 loop-holds : tie.Need-loop-holds Inv-loop μ-loop
 loop-holds c = loop-start _ _ (omega arith) (omega arith)
 
 imm-at-requires : tie.Need-imm-at-requires Inv-loop μ-loop
 imm-at-requires c κs =
     (c .before .before .before .before .before .before .pre .0, (c .before .before .before .before .before .before .pre .1, omega (arith, c .before .before .before .imm-count .ensures .0)))
-
-put-imm-requires : tie.Need-put-imm-requires Inv-loop μ-loop
-put-imm-requires c κs = search needs
 
 add-k : tie.Need-add-k Inv-loop μ-loop
 add-k c =
@@ -59,10 +53,10 @@ put-imms-spec =
     (tie.spec
     Inv-loop
     μ-loop
-    imm-count-requires
+    (λ c κs. search needs)
     loop-holds
     imm-at-requires
-    put-imm-requires
+    (λ c κs. search needs)
     add-k
     loop-less
     loop-again

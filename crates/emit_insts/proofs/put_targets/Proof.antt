@@ -8,7 +8,7 @@ use lib.ListN.{getD, length}
 use mathlib.Core.List.{[], _∷_}
 use Rattle.lifting.specs.Points.{CfgPoint, regionEntry}
 use Rattle.func.specs.Decode.{funcOf}
-use Rattle.laws.specs.Members.{all-in, in-getD}
+use Rattle.general_laws.specs.Members.{all-in, in-getD}
 use Rattle.work.specs.Layout.{labelIdsAt}
 use Rattle.walk_points.specs.Numbers.{Small, number-low}
 use Rattle.terminators.specs.Kinds.{termOf}
@@ -24,9 +24,6 @@ Inv-loop func work out₀ m first w n d₀ k₀ out d k = Loop (λ j. id (labelI
 
 abbrev μ-loop : tie.MeasureT-loop
 μ-loop func work out₀ m first w n d₀ k₀ out d k = n - k
-
-targets-requires : tie.Need-targets-requires Inv-loop μ-loop
-targets-requires c κs = search needs
 
 loop-holds : tie.Need-loop-holds Inv-loop μ-loop
 loop-holds c = loop-start _ _ (omega arith) (omega arith)
@@ -44,9 +41,6 @@ label-of-requires c κs =
     let ps = termOf (funcOf (a .func .now)) (a .w) .targets in
     let s : Small (getD ps (c .before .before .before .loop .k) (regionEntry 0)) = all-in Small ps (p .1 .1) _ (in-getD ps (c .before .before .before .loop .k) (regionEntry 0) (omega (arith, c .before .before .before .before .targets .ensures .0))) in
     (omega (arith, c .target-at .ensures, number-low (getD ps (c .before .before .before .loop .k) (regionEntry 0)) s), omega (arith, p .0 .laid .size))
-
-put-id-requires : tie.Need-put-id-requires Inv-loop μ-loop
-put-id-requires c κs = search needs
 
 add-k : tie.Need-add-k Inv-loop μ-loop
 add-k c =
@@ -85,11 +79,11 @@ put-targets-spec =
     (tie.spec
     Inv-loop
     μ-loop
-    targets-requires
+    (λ c κs. search needs)
     loop-holds
     target-at-requires
     label-of-requires
-    put-id-requires
+    (λ c κs. search needs)
     add-k
     loop-less
     loop-again

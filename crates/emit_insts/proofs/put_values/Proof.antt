@@ -8,7 +8,7 @@ use lib.ListN.{getD, length}
 use mathlib.Core.List.{[], _∷_}
 use Rattle.lifting.specs.Ast.{Value, const}
 use Rattle.func.specs.Decode.{funcOf}
-use Rattle.laws.specs.Members.{all-in, in-getD}
+use Rattle.general_laws.specs.Members.{all-in, in-getD}
 use Rattle.lifting_runs.specs.Refers.{Named}
 use Rattle.emit_lists.specs.Named.{valuesOf}
 use Rattle.emit_words.specs.Put.{Loop, id, loop-end, loop-start, loop-turn, put-length, put-same}
@@ -22,9 +22,6 @@ Inv-loop func work out₀ m first l n d₀ k₀ out d k = Loop (λ j. id (idIn (
 
 abbrev μ-loop : tie.MeasureT-loop
 μ-loop func work out₀ m first l n d₀ k₀ out d k = n - k
-
-value-count-requires : tie.Need-value-count-requires Inv-loop μ-loop
-value-count-requires c κs = search needs
 
 loop-holds : tie.Need-loop-holds Inv-loop μ-loop
 loop-holds c = loop-start _ _ (omega arith) (omega arith)
@@ -42,9 +39,6 @@ id-of-requires c κs =
     let F = funcOf (a .func .now) in
     let v = all-in (Named F) (valuesOf F (a .l)) (p .1 .1 .1) _ (in-getD (valuesOf F (a .l)) (c .before .before .before .loop .k) (const 0) (omega (arith, c .before .before .before .before .value-count .ensures .0))) in
     (p .0, (p .1 .0, subst (Named F) (sym (c .value-at .ensures)) v))
-
-put-id-requires : tie.Need-put-id-requires Inv-loop μ-loop
-put-id-requires c κs = search needs
 
 add-k : tie.Need-add-k Inv-loop μ-loop
 add-k c =
@@ -78,11 +72,11 @@ put-values-spec =
     (tie.spec
     Inv-loop
     μ-loop
-    value-count-requires
+    (λ c κs. search needs)
     loop-holds
     value-at-requires
     id-of-requires
-    put-id-requires
+    (λ c κs. search needs)
     add-k
     loop-less
     loop-again

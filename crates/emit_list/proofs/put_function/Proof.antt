@@ -12,30 +12,6 @@ use Rattle.emit_list.specs.Points.{head-is}
 use Rattle.emit_list.proofs.put_function.Statement.{statement}
 use Rattle.emit_list.proofs.put_function.Tie as tie
 
-func-control-requires : tie.Need-func-control-requires
-func-control-requires c κs = search needs
-
-func-attrs-requires : tie.Need-func-attrs-requires
-func-attrs-requires c κs = search needs
-
-func-ret-requires : tie.Need-func-ret-requires
-func-ret-requires c κs = search needs
-
-opcode-requires : tie.Need-opcode-requires
-opcode-requires c κs = search needs
-
-put-front-requires : tie.Need-put-front-requires
-put-front-requires c κs = search needs
-
-func-type-requires : tie.Need-func-type-requires
-func-type-requires c κs = search needs
-
-put-id-requires : tie.Need-put-id-requires
-put-id-requires c κs = search needs
-
-same-length : tie.Need-same-length
-same-length c = search needs
-
 returns : tie.Need-returns
 returns c =
     let a = c .before .before .before .before .before .before .before .before .before .before .before .before .before .before .before .args in
@@ -49,12 +25,12 @@ pub put-function-spec : {M : Type 1} → statement M
 put-function-spec =
     tie.close
     (tie.spec
-    func-control-requires
-    func-attrs-requires
-    func-ret-requires
-    opcode-requires
-    put-front-requires
-    func-type-requires
-    put-id-requires
-    same-length
+    (λ c κs. search needs)
+    (λ c κs. search needs)
+    (λ c κs. search needs)
+    (λ c κs. search needs)
+    (λ c κs. search needs)
+    (λ c κs. search needs)
+    (λ c κs. search needs)
+    (λ c. search needs)
     returns)

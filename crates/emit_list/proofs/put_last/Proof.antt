@@ -9,15 +9,6 @@ use Rattle.emit_list.specs.Points.{last-is}
 use Rattle.emit_list.proofs.put_last.Statement.{statement}
 use Rattle.emit_list.proofs.put_last.Tie as tie
 
-opcode-requires : tie.Need-opcode-requires
-opcode-requires c κs = search needs
-
-put-front-requires : tie.Need-put-front-requires
-put-front-requires c κs = search needs
-
-same-length : tie.Need-same-length
-same-length c = search needs
-
 returns : tie.Need-returns
 returns c =
     let a = c .before .before .before .before .before .before .before .args in
@@ -26,4 +17,4 @@ returns c =
     put-same (c .before .before .put-front .ensures) (front-same _ (c .before .before .before .opcode .ensures) refl refl refl refl ∙ last-is F (a .first))
 
 pub put-last-spec : {M : Type 1} → statement M
-put-last-spec = tie.close (tie.spec opcode-requires put-front-requires same-length returns)
+put-last-spec = tie.close (tie.spec (λ c κs. search needs) (λ c κs. search needs) (λ c. search needs) returns)

@@ -9,21 +9,6 @@ use Rattle.emit_list.specs.Over.{shaped-passes}
 use Rattle.emit_list.proofs.put_list.Statement.{statement}
 use Rattle.emit_list.proofs.put_list.Tie as tie
 
-put-function-requires : tie.Need-put-function-requires
-put-function-requires c κs = search needs
-
-put-params-requires : tie.Need-put-params-requires
-put-params-requires c κs = search needs
-
-put-points-requires : tie.Need-put-points-requires
-put-points-requires c κs = search needs
-
-put-last-requires : tie.Need-put-last-requires
-put-last-requires c κs = search needs
-
-same-length : tie.Need-same-length
-same-length c = search needs
-
 returns : tie.Need-returns
 returns c =
     let a = c .before .before .before .before .before .before .before .before .before .before .before .before .before .before .before .before .before .before .before .args in
@@ -38,9 +23,9 @@ pub put-list-spec : {M : Type 1} → statement M
 put-list-spec =
     tie.close
     (tie.spec
-    put-function-requires
-    put-params-requires
-    put-points-requires
-    put-last-requires
-    same-length
+    (λ c κs. search needs)
+    (λ c κs. search needs)
+    (λ c κs. search needs)
+    (λ c κs. search needs)
+    (λ c. search needs)
     returns)

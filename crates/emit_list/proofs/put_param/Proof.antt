@@ -12,15 +12,6 @@ use Rattle.emit_list.specs.Laws.{few-params}
 use Rattle.emit_list.proofs.put_param.Statement.{statement}
 use Rattle.emit_list.proofs.put_param.Tie as tie
 
-param-attrs-requires : tie.Need-param-attrs-requires
-param-attrs-requires c κs = search needs
-
-param-type-requires : tie.Need-param-type-requires
-param-type-requires c κs = search needs
-
-add-result : tie.Need-add-result
-add-result c = search needs
-
 cast-result : tie.Need-cast-result
 cast-result c =
     let a = c .before .before .before .before .args in
@@ -35,15 +26,6 @@ add-result-2 c =
     let F = funcOf (a .func .now) in
     let f : a .i ≤ 64 = omega (arith, few-params (p .0), p .1 .0) in let g = p .1 .1 in search needs
 
-opcode-requires : tie.Need-opcode-requires
-opcode-requires c κs = search needs
-
-put-front-requires : tie.Need-put-front-requires
-put-front-requires c κs = search needs
-
-same-length : tie.Need-same-length
-same-length c = search needs
-
 returns : tie.Need-returns
 returns c =
     let a = c .before .before .before .before .before .before .before .before .before .args in
@@ -55,12 +37,12 @@ pub put-param-spec : {M : Type 1} → statement M
 put-param-spec =
     tie.close
     (tie.spec
-    param-attrs-requires
-    param-type-requires
-    add-result
+    (λ c κs. search needs)
+    (λ c κs. search needs)
+    (λ c. search needs)
     cast-result
     add-result-2
-    opcode-requires
-    put-front-requires
-    same-length
+    (λ c κs. search needs)
+    (λ c κs. search needs)
+    (λ c. search needs)
     returns)

@@ -11,12 +11,9 @@ use Rattle.blocks.specs.Absorbs.{stands, statusWord, word-gone}
 use Rattle.emit_ids.specs.Giving.{not-here, number-is, starts-here}
 use Rattle.emit_words.specs.Put.{put-more, put-none, put-same}
 use Rattle.emit_list.specs.Points.{items-gone, items-goes, items-starts}
-use Rattle.emit_list.specs.Laws.{goes-on}
+use Rattle.emit_list.specs.Laws.{goes-with}
 use Rattle.emit_list.proofs.put_point.Statement.{statement}
 use Rattle.emit_list.proofs.put_point.Tie as tie
-
-number-requires : tie.Need-number-requires
-number-requires c κs = search needs
 
 returns : tie.Need-returns
 returns c =
@@ -25,9 +22,6 @@ returns c =
     let F = funcOf (a .func .now) in
     put-same (put-none (omega arith) (omega arith))
     (sym (items-gone F (a .first) (a .i) (word-gone (stands F (a .i)) (pointAt F (a .i)) (sym (p .0 .ready .laid .glued .status (a .i) (p .1)) ∙ sym (c .before .number .ensures) ∙ c .if1 .taken))))
-
-number-requires-2 : tie.Need-number-requires-2
-number-requires-2 c κs = search needs
 
 add-if2 : tie.Need-add-if2
 add-if2 c =
@@ -43,12 +37,6 @@ put-start-requires c κs =
     let F = funcOf (a .func .now) in
     (p .0, (p .1, starts-here (p .0 .ready .laid) (a .i) (p .1) (c .before .before .number2 .ensures) (c .before .before .before .before .number .ensures) (c .before .if2 .taken)))
 
-put-rest-requires : tie.Need-put-rest-requires
-put-rest-requires c κs = search needs
-
-same-length : tie.Need-same-length
-same-length c = search needs
-
 returns-2 : tie.Need-returns-2
 returns-2 c =
     let a = c .before .before .before .before .before .before .before .before .before .before .before .before .before .before .before .args in
@@ -57,33 +45,27 @@ returns-2 c =
     let s = starts-here (p .0 .ready .laid) (a .i) (p .1) (c .before .before .before .before .before .before .before .before .before .number2 .ensures) (c .before .before .before .before .before .before .before .before .before .before .before .number .ensures) (c .before .before .before .before .before .before .before .before .if2 .taken) in
     put-same (put-more (c .before .before .before .before .before .before .put-start .ensures) (c .before .before .put-rest .ensures)) (sym (items-starts F (a .first) (a .i) s))
 
-put-rest-requires-2 : tie.Need-put-rest-requires-2
-put-rest-requires-2 c κs = search needs
-
-same-length-2 : tie.Need-same-length-2
-same-length-2 c = search needs
-
 returns-3 : tie.Need-returns-3
 returns-3 c =
     let a = c .before .before .before .before .before .before .before .before .before .before .before .args in
     let p = c .before .before .before .before .before .before .before .before .before .before .before .pre in
     let F = funcOf (a .func .now) in
     let n = not-here (p .0 .ready .laid) (a .i) (p .1) (c .before .before .before .before .before .number2 .ensures) (c .before .before .before .before .before .before .before .number .ensures) (c .before .before .before .before .if2 .left) in
-    let g = goes-on (stands F (a .i)) (λ e. c .before .before .before .before .before .before .if1 .left (c .before .before .before .before .before .before .before .number .ensures ∙ p .0 .ready .laid .glued .status (a .i) (p .1) ∙ ap (λ (s : Status). statusWord s (pointAt F (a .i))) e)) n in
+    let g = goes-with (stands F (a .i)) (λ e. c .before .before .before .before .before .before .if1 .left (c .before .before .before .before .before .before .before .number .ensures ∙ p .0 .ready .laid .glued .status (a .i) (p .1) ∙ ap (λ (s : Status). statusWord s (pointAt F (a .i))) e)) n in
     put-same (c .before .before .put-rest2 .ensures) (sym (items-goes F (a .first) (a .i) (g .1)))
 
 pub put-point-spec : {M : Type 1} → statement M
 put-point-spec =
     tie.close
     (tie.spec
-    number-requires
+    (λ c κs. search needs)
     returns
-    number-requires-2
+    (λ c κs. search needs)
     add-if2
     put-start-requires
-    put-rest-requires
-    same-length
+    (λ c κs. search needs)
+    (λ c. search needs)
     returns-2
-    put-rest-requires-2
-    same-length-2
+    (λ c κs. search needs)
+    (λ c. search needs)
     returns-3)

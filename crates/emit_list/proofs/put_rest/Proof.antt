@@ -13,15 +13,6 @@ use Rattle.emit_list.specs.Laws.{absorbs-false, absorbs-true}
 use Rattle.emit_list.proofs.put_rest.Statement.{statement}
 use Rattle.emit_list.proofs.put_rest.Tie as tie
 
-put-ops-requires : tie.Need-put-ops-requires
-put-ops-requires c κs = search needs
-
-word-requires : tie.Need-word-requires
-word-requires c κs = search needs
-
-same-length : tie.Need-same-length
-same-length c = search needs
-
 returns : tie.Need-returns
 returns c =
     let a = c .before .before .before .before .before .before .before .before .before .args in
@@ -30,12 +21,6 @@ returns c =
     put-same (c .before .before .before .before .put-ops .ensures)
     (sym (append-nil (opsAt F (a .first) (a .i)))
     ∙ ap (λ (b : Bool). opsAt F (a .first) (a .i) ++ endIf F (a .first) b (blockAt F (a .i) .term)) (sym (absorbs-true (absorbs F (a .i)) (sym (c .before .word .ensures ∙ p .0 .ready .laid .glued .absorb (a .i) (p .1)) ∙ c .if1 .taken))))
-
-put-end-requires : tie.Need-put-end-requires
-put-end-requires c κs = search needs
-
-same-length-2 : tie.Need-same-length-2
-same-length-2 c = search needs
 
 returns-2 : tie.Need-returns-2
 returns-2 c =
@@ -49,10 +34,10 @@ pub put-rest-spec : {M : Type 1} → statement M
 put-rest-spec =
     tie.close
     (tie.spec
-    put-ops-requires
-    word-requires
-    same-length
+    (λ c κs. search needs)
+    (λ c κs. search needs)
+    (λ c. search needs)
     returns
-    put-end-requires
-    same-length-2
+    (λ c κs. search needs)
+    (λ c. search needs)
     returns-2)

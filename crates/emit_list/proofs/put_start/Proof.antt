@@ -13,9 +13,6 @@ use Rattle.emit_insts.specs.Ready.{ready-visited}
 use Rattle.emit_list.proofs.put_start.Statement.{statement}
 use Rattle.emit_list.proofs.put_start.Tie as tie
 
-number-requires : tie.Need-number-requires
-number-requires c κs = search needs
-
 put-label-requires : tie.Need-put-label-requires
 put-label-requires c κs =
     let a = c .before .before .before .before .before .args in
@@ -30,9 +27,6 @@ put-phis-requires c κs =
     let p = c .before .before .before .before .before .before .before .before .before .pre in
     (p .0 .ready, (p .0 .linked, p .1 .0))
 
-same-length : tie.Need-same-length
-same-length c = search needs
-
 returns : tie.Need-returns
 returns c =
     let a = c .before .before .before .before .before .before .before .before .before .before .before .before .args in
@@ -45,8 +39,8 @@ pub put-start-spec : {M : Type 1} → statement M
 put-start-spec =
     tie.close
     (tie.spec
-    number-requires
+    (λ c κs. search needs)
     put-label-requires
     put-phis-requires
-    same-length
+    (λ c. search needs)
     returns)

@@ -1,7 +1,7 @@
 -- The kind that is read is the op's, and it tells what is called: nothing by an INST, and else the id beside it (`op-callee-is`).
 use Rattle.lifting.specs.Parts.{opOf}
 use Rattle.func.specs.Decode.{funcOf}
-use Rattle.emit_lists.specs.Opcodes.{op-callee-is}
+use Rattle.emit_lists.specs.OpcodeLaws.{op-callee-is}
 use borrow.Author.Needs.{needs}
 use Rattle.emit_op_parts.proofs.callee.Statement.{statement}
 use Rattle.emit_op_parts.proofs.callee.Tie as tie

@@ -2,7 +2,7 @@
 -- (`op-imms-are`).
 use Rattle.lifting.specs.Parts.{opOf}
 use Rattle.func.specs.Decode.{funcOf}
-use Rattle.emit_lists.specs.Opcodes.{op-imms-are}
+use Rattle.emit_lists.specs.OpcodeLaws.{op-imms-are}
 use borrow.Author.Needs.{needs}
 use Rattle.emit_op_parts.proofs.op_imms.Statement.{statement}
 use Rattle.emit_op_parts.proofs.op_imms.Tie as tie

@@ -3,7 +3,7 @@
 use mathlib.Core.Path.{_∙_}
 use Rattle.lifting.specs.Parts.{opOf}
 use Rattle.func.specs.Decode.{funcOf}
-use Rattle.emit_lists.specs.Opcodes.{op-opcode-is}
+use Rattle.emit_lists.specs.OpcodeLaws.{op-opcode-is}
 use borrow.Author.Needs.{needs}
 use Rattle.emit_op_parts.proofs.op_opcode.Statement.{statement}
 use Rattle.emit_op_parts.proofs.op_opcode.Tie as tie

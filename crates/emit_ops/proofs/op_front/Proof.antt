@@ -11,27 +11,6 @@ use Rattle.emit_insts.specs.Parts.{front-same}
 use Rattle.emit_ops.proofs.op_front.Statement.{statement}
 use Rattle.emit_ops.proofs.op_front.Tie as tie
 
-op-type-requires : tie.Need-op-type-requires
-op-type-requires c κs = search needs
-
-result-of-requires : tie.Need-result-of-requires
-result-of-requires c κs = search needs
-
-op-imms-requires : tie.Need-op-imms-requires
-op-imms-requires c κs = search needs
-
-op-opcode-requires : tie.Need-op-opcode-requires
-op-opcode-requires c κs = search needs
-
-op-attrs-requires : tie.Need-op-attrs-requires
-op-attrs-requires c κs = search needs
-
-put-front-requires : tie.Need-put-front-requires
-put-front-requires c κs = search needs
-
-same-length : tie.Need-same-length
-same-length c = search needs
-
 returns : tie.Need-returns
 returns c =
     let a = c .before .before .before .before .before .before .before .before .before .before .before .before .args in
@@ -45,11 +24,11 @@ pub op-front-spec : {M : Type 1} → statement M
 op-front-spec =
     tie.close
     (tie.spec
-    op-type-requires
-    result-of-requires
-    op-imms-requires
-    op-opcode-requires
-    op-attrs-requires
-    put-front-requires
-    same-length
+    (λ c κs. search needs)
+    (λ c κs. search needs)
+    (λ c κs. search needs)
+    (λ c κs. search needs)
+    (λ c κs. search needs)
+    (λ c κs. search needs)
+    (λ c. search needs)
     returns)

@@ -13,18 +13,9 @@ use Rattle.emit_ops.proofs.put_callee.Tie as tie
 enum-told : tie.Need-enum-told
 enum-told c = search needs
 
-enum-known-x : tie.Need-enum-known-x
-enum-known-x c = search needs
-
-put-id-requires : tie.Need-put-id-requires
-put-id-requires c κs = search needs
-
 returns : tie.Need-returns
 returns c =
     put-same (put-none (omega arith) (omega arith)) (sym (ap (λ (x : Callee). idEach (λ (n : ℕ). n) (calleeOf x)) (c .enum-told .given .1)))
-
-same-length : tie.Need-same-length
-same-length c = search needs
 
 returns-2 : tie.Need-returns-2
 returns-2 c =
@@ -32,4 +23,4 @@ returns-2 c =
 
 pub put-callee-spec : {M : Type 1} → statement M
 put-callee-spec =
-    tie.close (tie.spec enum-told enum-known-x put-id-requires returns same-length returns-2)
+    tie.close (tie.spec enum-told (λ c. search needs) (λ c κs. search needs) returns (λ c. search needs) returns-2)

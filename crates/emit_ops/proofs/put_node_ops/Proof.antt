@@ -7,7 +7,7 @@ use lib.ListN.{getD, length}
 use borrow.Author.Needs.{needs}
 use Rattle.lifting.specs.Parts.{blockOps, nodeOf}
 use Rattle.func.specs.Decode.{funcOf}
-use Rattle.laws.specs.Members.{in-getD}
+use Rattle.general_laws.specs.Members.{in-getD}
 use Rattle.lifting_runs.specs.Refers.{refers}
 use Rattle.emit_words.specs.Put.{Loop, loop-end, loop-start, loop-turn, put-length, put-same}
 use Rattle.emit_insts.specs.Parts.{opIn, upTo-gather}

@@ -12,15 +12,6 @@ use Rattle.emit_insts.specs.Parts.{op-is}
 use Rattle.emit_ops.proofs.put_op.Statement.{statement}
 use Rattle.emit_ops.proofs.put_op.Tie as tie
 
-callee-requires : tie.Need-callee-requires
-callee-requires c κs = search needs
-
-callee-count-requires : tie.Need-callee-count-requires
-callee-count-requires c κs = search needs
-
-value-count-requires : tie.Need-value-count-requires
-value-count-requires c κs = search needs
-
 add-ids : tie.Need-add-ids
 add-ids c =
     let x = c .value-count .ensures .1 in let y = c .before .callee-count .ensures .1 in search needs
@@ -32,18 +23,12 @@ op-front-requires c κs =
     let F = funcOf (a .func .now) in
     (p .0, (p .1 .1, omega (arith, c .before .value-count .ensures .1, c .before .before .callee-count .ensures .1)))
 
-put-callee-requires : tie.Need-put-callee-requires
-put-callee-requires c κs = search needs
-
 put-values-requires : tie.Need-put-values-requires
 put-values-requires c κs =
     let a = c .before .before .before .before .before .before .before .before .before .before .before .before .before .before .before .args in
     let p = c .before .before .before .before .before .before .before .before .before .before .before .before .before .before .before .pre in
     let F = funcOf (a .func .now) in
     (p .0, (p .1 .0, (p .1 .1, refers F (p .0 .stands .passes .references) .operands-named (a .o))))
-
-same-length : tie.Need-same-length
-same-length c = search needs
 
 returns : tie.Need-returns
 returns c =
@@ -57,12 +42,12 @@ pub put-op-spec : {M : Type 1} → statement M
 put-op-spec =
     tie.close
     (tie.spec
-    callee-requires
-    callee-count-requires
-    value-count-requires
+    (λ c κs. search needs)
+    (λ c κs. search needs)
+    (λ c κs. search needs)
     add-ids
     op-front-requires
-    put-callee-requires
+    (λ c κs. search needs)
     put-values-requires
-    same-length
+    (λ c. search needs)
     returns)

@@ -4,7 +4,7 @@ use Prim.Native.Nat.{_-_, _<_}
 use native.Mathlib.Omega.{arith}
 use lib.ListN.{length}
 use borrow.Author.Needs.{needs}
-use Rattle.laws.specs.Lists.{gather}
+use Rattle.general_laws.specs.Lists.{gather}
 use Rattle.lifting.specs.Walk.{walkOf}
 use Rattle.func.specs.Decode.{funcOf}
 use Rattle.emit_words.specs.Put.{put-none, put-same}
@@ -25,12 +25,6 @@ point-requires c κs =
 enum-told : tie.Need-enum-told
 enum-told c = search needs
 
-enum-told-2 : tie.Need-enum-told-2
-enum-told-2 c = search needs
-
-enum-known-p : tie.Need-enum-known-p
-enum-known-p c = search needs
-
 put-node-ops-requires : tie.Need-put-node-ops-requires
 put-node-ops-requires c κs =
     let a = c .before .before .before .before .before .before .before .before .args in
@@ -39,9 +33,6 @@ put-node-ops-requires c κs =
     let k = ready-visited (p .0) (a .i) (p .1) in
     let h : a .i < length (walkOf F) = omega (arith, p .1, k .count) in
     (p .0, (omega (arith, p .1), subst (InText F) (sym (c .before .before .before .before .point .ensures) ∙ ap asPoint (c .before .before .p .given .1)) (in-text F (k .walkable) (a .i) h)))
-
-enum-told-3 : tie.Need-enum-told-3
-enum-told-3 c = search needs
 
 returns : tie.Need-returns
 returns c =
@@ -60,9 +51,6 @@ returns-2 c =
     let k = ready-visited (p .0) (a .i) (p .1) in
     let h : a .i < length (walkOf F) = omega (arith, p .1, k .count) in
     put-same (put-none (omega arith) (omega arith)) (sym (ap (gather (opIn F (a .first))) (ops-at F (k .walkable) (a .i) h ∙ ap (opsOf F) (sym (c .before .before .point .ensures)) ∙ ap (λ (x : Point). opsOf F (asPoint x)) (c .enum-told2 .given .1))))
-
-same-length : tie.Need-same-length
-same-length c = search needs
 
 returns-3 : tie.Need-returns-3
 returns-3 c =
@@ -88,12 +76,12 @@ put-ops-spec =
     (tie.spec
     point-requires
     enum-told
-    enum-told-2
-    enum-known-p
+    (λ c. search needs)
+    (λ c. search needs)
     put-node-ops-requires
-    enum-told-3
+    (λ c. search needs)
     returns
     returns-2
-    same-length
+    (λ c. search needs)
     returns-3
     returns-4)

@@ -6,9 +6,6 @@ use Rattle.emit_insts.specs.Ready.{few-ops, result-is}
 use Rattle.emit_ops.proofs.result_of.Statement.{statement}
 use Rattle.emit_ops.proofs.result_of.Tie as tie
 
-returns : tie.Need-returns
-returns c = search needs
-
 word-requires : tie.Need-word-requires
 word-requires c κs =
     let p = c .before .before .before .pre in omega (arith, few-ops (p .0 .laid .tables), p .0 .laid .size, p .1)
@@ -20,4 +17,4 @@ returns-2 c =
 
 pub result-of-spec : {M : Type 1} → statement M
 result-of-spec =
-    tie.close (tie.spec returns word-requires returns-2)
+    tie.close (tie.spec (λ c. search needs) word-requires returns-2)

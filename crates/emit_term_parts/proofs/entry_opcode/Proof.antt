@@ -2,7 +2,7 @@
 use mathlib.Core.Path.{_∙_}
 use Rattle.lifting.specs.Parts.{nodeOf}
 use Rattle.func.specs.Decode.{funcOf}
-use Rattle.emit_lists.specs.Opcodes.{node-opcode-is}
+use Rattle.emit_lists.specs.OpcodeLaws.{node-opcode-is}
 use borrow.Author.Needs.{needs}
 use Rattle.emit_term_parts.proofs.entry_opcode.Statement.{statement}
 use Rattle.emit_term_parts.proofs.entry_opcode.Tie as tie

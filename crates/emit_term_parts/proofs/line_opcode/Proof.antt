@@ -3,7 +3,7 @@ use mathlib.Core.Path.{ap, _∙_}
 use Rattle.func.specs.Decode.{funcOf}
 use Rattle.func.specs.Tables.{ctrlLine}
 use Rattle.emit_lists.specs.Named.{returnOpcode}
-use Rattle.emit_lists.specs.Opcodes.{line-opcode-is}
+use Rattle.emit_lists.specs.OpcodeLaws.{line-opcode-is}
 use borrow.Author.Needs.{needs}
 use Rattle.emit_term_parts.proofs.line_opcode.Statement.{statement}
 use Rattle.emit_term_parts.proofs.line_opcode.Tie as tie

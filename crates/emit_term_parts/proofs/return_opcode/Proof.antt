@@ -1,6 +1,6 @@
 -- Without inputs the opcode is a plain return's, and with any it is that of a return with a value (`return-some`).
 use mathlib.Core.Path.{_∙_}
-use Rattle.emit_lists.specs.Opcodes.{return-some}
+use Rattle.emit_lists.specs.OpcodeLaws.{return-some}
 use borrow.Author.Needs.{needs}
 use Rattle.emit_term_parts.proofs.return_opcode.Statement.{statement}
 use Rattle.emit_term_parts.proofs.return_opcode.Tie as tie

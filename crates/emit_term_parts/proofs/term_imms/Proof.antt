@@ -8,7 +8,7 @@ use Rattle.terminators.specs.declared.TermKind.{TermKind}
 use Rattle.terminators.specs.Kinds.{termOf}
 use Rattle.terminators.specs.Labels.{fits-as}
 use Rattle.emit_lists.specs.Laws.{back}
-use Rattle.emit_lists.specs.Opcodes.{line-imms, node-imms}
+use Rattle.emit_lists.specs.OpcodeLaws.{line-imms, node-imms}
 use borrow.Author.Needs.{needs}
 use Rattle.emit_term_parts.proofs.term_imms.Statement.{statement}
 use Rattle.emit_term_parts.proofs.term_imms.Tie as tie

@@ -9,7 +9,7 @@ use Rattle.terminators.specs.Kinds.{termOf}
 use Rattle.terminators.specs.Labels.{fits-as}
 use Rattle.emit_lists.specs.Named.{returnOpcode}
 use Rattle.emit_lists.specs.Laws.{back}
-use Rattle.emit_lists.specs.Opcodes.{return-is}
+use Rattle.emit_lists.specs.OpcodeLaws.{return-is}
 use borrow.Author.Needs.{needs}
 use Rattle.emit_term_parts.proofs.term_opcode.Statement.{statement}
 use Rattle.emit_term_parts.proofs.term_opcode.Tie as tie

@@ -20,9 +20,6 @@ use Rattle.emitter.proofs.emit.Tie as tie
 fits-as : {k n : ℕ} {b : Bool} → k ≡ n → leb k (suc highestId) ≡ b → leb n (suc highestId) ≡ b
 fits-as e f = ap (λ (i : ℕ). leb i (suc highestId)) (sym e) ∙ f
 
-first-fits-requires : tie.Need-first-fits-requires
-first-fits-requires c κs = search needs
-
 returns : tie.Need-returns
 returns c =
     let a = c .before .before .before .before .before .args in
@@ -30,28 +27,16 @@ returns c =
     let F = funcOf (a .func .now) in
     (gives-ids F (a .first) (length (a .out .now)) (a .out .now) (ids-low F (a .first) (sym (c .before .first-fits .ensures) ∙ not-true _ (c .if1 .taken))), (refl, wants-not Ids 0 _ refl))
 
-id-fits-requires : tie.Need-id-fits-requires
-id-fits-requires c κs = search needs
-
 returns-2 : tie.Need-returns-2
 returns-2 c =
     let a = c .before .before .before .before .before .before .before .args in
     let F = funcOf (a .func .now) in
     (gives-ids F (a .first) (length (a .out .now)) (a .out .now) (ids-high F (a .first) (sym (c .before .id-fits .ensures) ∙ not-true _ (c .if2 .taken))), (refl, wants-not Ids 0 _ refl))
 
-lay-requires : tie.Need-lay-requires
-lay-requires c κs = search needs
-
 number-requires : tie.Need-number-requires
 number-requires c κs =
     let y = c .before .before .before .lay .ensures in
     (y .0, (y .1 .0, leb-true _ highestId (sym (c .before .before .before .before .before .before .id-fits .ensures) ∙ not-false _ (c .before .before .before .before .before .if2 .left))))
-
-next-fits-requires : tie.Need-next-fits-requires
-next-fits-requires c κs = search needs
-
-same-length : tie.Need-same-length
-same-length c = search needs
 
 returns-3 : tie.Need-returns-3
 returns-3 c =
@@ -90,12 +75,6 @@ written-requires c κs =
       (held, n .0),
     )
 
-same-length-2 : tie.Need-same-length-2
-same-length-2 c = search needs
-
-same-length-3 : tie.Need-same-length-3
-same-length-3 c = search needs
-
 returns-4 : tie.Need-returns-4
 returns-4 c =
     let a = c .before .before .before .before .before .before .before .before .before .before .before .before .before .before .before .before .before .before .before .before .before .before .before .before .before .before .args in
@@ -114,17 +93,17 @@ pub emit-spec : {M : Type 1} → statement M
 emit-spec =
     tie.close
     (tie.spec
-    first-fits-requires
+    (λ c κs. search needs)
     returns
-    id-fits-requires
+    (λ c κs. search needs)
     returns-2
-    lay-requires
+    (λ c κs. search needs)
     number-requires
-    next-fits-requires
-    same-length
+    (λ c κs. search needs)
+    (λ c. search needs)
     returns-3
     link-requires
     written-requires
-    same-length-2
-    same-length-3
+    (λ c. search needs)
+    (λ c. search needs)
     returns-4)

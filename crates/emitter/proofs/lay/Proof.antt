@@ -10,20 +10,11 @@ use Rattle.emit_list.specs.Laws.{no-regions}
 use Rattle.emitter.proofs.lay.Statement.{statement}
 use Rattle.emitter.proofs.lay.Tie as tie
 
-region-total-requires : tie.Need-region-total-requires
-region-total-requires c κs = search needs
-
 returns : tie.Need-returns
 returns c =
     let p = c .before .before .before .before .pre in
     let z = zero-word (p .1 .1) in
     (laid-imported (p .0 .tables) (p .1 .0) (no-regions _ (omega arith)), (record { word = λ x a b. z x }, (record { word = λ x a b. z x }, refl)))
-
-blocks-requires : tie.Need-blocks-requires
-blocks-requires c κs = search needs
-
-same-length : tie.Need-same-length
-same-length c = search needs
 
 returns-2 : tie.Need-returns-2
 returns-2 c =
@@ -36,4 +27,4 @@ returns-2 c =
     )
 
 pub lay-spec : {M : Type 1} → statement M
-lay-spec = tie.close (tie.spec region-total-requires returns blocks-requires same-length returns-2)
+lay-spec = tie.close (tie.spec (λ c κs. search needs) returns (λ c κs. search needs) (λ c. search needs) returns-2)

@@ -16,12 +16,6 @@ use Rattle.emitter.proofs.Giving.{gives-list, gives-room, gives-values,
 use Rattle.emitter.proofs.written.Statement.{statement}
 use Rattle.emitter.proofs.written.Tie as tie
 
-slice-aggregate-put-list : tie.Need-slice-aggregate-put-list
-slice-aggregate-put-list c = search needs
-
-put-list-requires : tie.Need-put-list-requires
-put-list-requires c κs = search needs
-
 returns : tie.Need-returns
 returns c =
     let a = c .before .before .before .before .before .before .before .before .args in
@@ -45,12 +39,6 @@ returns-2 c =
     let e = c .before .before .before .before .before .put-list .ensures in
     (gives-room F (a .first) n (a .out .now) (missing-none F (a .first) ok (p .1 .0) e (c .before .before .if1 .left)) (sym (room-is L e n (omega arith)) ∙ lt-leb _ n (c .if2 .taken)) _, λ z. count-is L e (omega (arith, text-bound F (a .first) (ok .limits) (ok .references) (ok .tree) (ok .counts) (ok .control))))
 
-put-list-requires-2 : tie.Need-put-list-requires-2
-put-list-requires-2 c κs = search needs
-
-same-length : tie.Need-same-length
-same-length c = search needs
-
 returns-3 : tie.Need-returns-3
 returns-3 c =
     let a = c .before .before .before .before .before .before .before .before .before .before .before .before .before .before .args in
@@ -70,10 +58,10 @@ pub written-spec : {M : Type 1} → statement M
 written-spec =
     tie.close
     (tie.spec
-    slice-aggregate-put-list
-    put-list-requires
+    (λ c. search needs)
+    (λ c κs. search needs)
     returns
     returns-2
-    put-list-requires-2
-    same-length
+    (λ c κs. search needs)
+    (λ c. search needs)
     returns-3)

@@ -5,7 +5,7 @@ use native.Mathlib.Omega.{arith}
 use borrow.Author.Needs.{needs}
 use lib.ListN.{length, take, getD, set, length-set}
 use lib.Seq.{sets, take-length}
-use Rattle.laws.specs.Part.{run-more}
+use Rattle.general_laws.specs.Part.{run-more}
 use Rattle.func_pools.proofs.store.Statement.{statement}
 use Rattle.func_pools.proofs.store.Tie as tie
 

@@ -6,24 +6,6 @@ use borrow.Author.Needs.{needs}
 use Rattle.lifter.proofs.from_tables.Statement.{statement}
 use Rattle.lifter.proofs.from_tables.Tie as tie
 
-emit-requires : tie.Need-emit-requires
-emit-requires c κs = search needs
-
-clear-requires : tie.Need-clear-requires
-clear-requires c κs = search needs
-
-clear-requires-2 : tie.Need-clear-requires-2
-clear-requires-2 c κs = search needs
-
-same-length : tie.Need-same-length
-same-length c = search needs
-
-same-length-2 : tie.Need-same-length-2
-same-length-2 c = search needs
-
-same-length-3 : tie.Need-same-length-3
-same-length-3 c = search needs
-
 returns : tie.Need-returns
 returns c =
     let e = c .before .before .before .before .before .before .before .before .before .before .before .before .emit .ensures in
@@ -33,10 +15,10 @@ pub from-tables-spec : {M : Type 1} → statement M
 from-tables-spec =
     tie.close
     (tie.spec
-    emit-requires
-    clear-requires
-    clear-requires-2
-    same-length
-    same-length-2
-    same-length-3
+    (λ c κs. search needs)
+    (λ c κs. search needs)
+    (λ c κs. search needs)
+    (λ c. search needs)
+    (λ c. search needs)
+    (λ c. search needs)
     returns)

@@ -11,15 +11,9 @@ use Rattle.check_text.specs.declared.Parsed.{Parsed}
 use Rattle.reader.specs.Parse.{answerOf, funcAfter, workAfter}
 use Rattle.reader.specs.Same.{accepted, cleared}
 use Rattle.emitter.specs.Emit.{Wants, outcome}
-use Rattle.lifter.specs.Lift.{early, scratch-tables, tabled, wanted-denied, wanted-tabled}
+use Rattle.lifter.specs.Entry.{early, scratch-tables, tabled, wanted-denied, wanted-tabled}
 use Rattle.lifter.proofs.lift_function.Statement.{statement}
 use Rattle.lifter.proofs.lift_function.Tie as tie
-
-parse-requires : tie.Need-parse-requires
-parse-requires c κs = search needs
-
-enum-known-p : tie.Need-enum-known-p
-enum-known-p c = search needs
 
 enum-told : tie.Need-enum-told
 enum-told c = search needs
@@ -35,12 +29,6 @@ from-tables-requires c κs =
     let v = c .before .before .before .before .before .before .before .before .before .parse .last .1 .0 in
     let e = ap (λ (x : Parsed). answerOf x v) (sym (c .before .before .before .enum-told .given .1)) ∙ q .0 in
     (accepted t f v (length w) e (q .1 .0), cleared t f v w (c .before .before .before .before .before .before .before .before .before .parse .last .1 .1 .0) e (q .1 .1))
-
-same-length : tie.Need-same-length
-same-length c = search needs
-
-same-length-2 : tie.Need-same-length-2
-same-length-2 c = search needs
 
 returns : tie.Need-returns
 returns c =
@@ -59,15 +47,6 @@ returns c =
         (q .1 .1 ∙ ap (λ (x : answer.Parsed). workAfter x w) (sym e) ∙ ap (λ (x : Answer). scratchAfter x w) k, (ap (λ (x : Answer). outAfter x o) k, λ z. wanted-denied t (a .first) (length f) (length w) (length o) _ e)),
       ),
     )
-
-same-length-3 : tie.Need-same-length-3
-same-length-3 c = search needs
-
-same-length-4 : tie.Need-same-length-4
-same-length-4 c = search needs
-
-same-length-5 : tie.Need-same-length-5
-same-length-5 c = search needs
 
 returns-2 : tie.Need-returns-2
 returns-2 c =
@@ -101,14 +80,14 @@ pub lift-function-spec : {M : Type 1} → statement M
 lift-function-spec =
     tie.close
     (tie.spec
-    parse-requires
-    enum-known-p
+    (λ c κs. search needs)
+    (λ c. search needs)
     enum-told
     from-tables-requires
-    same-length
-    same-length-2
+    (λ c. search needs)
+    (λ c. search needs)
     returns
-    same-length-3
-    same-length-4
-    same-length-5
+    (λ c. search needs)
+    (λ c. search needs)
+    (λ c. search needs)
     returns-2)

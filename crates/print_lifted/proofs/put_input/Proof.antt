@@ -4,7 +4,7 @@ use mathlib.Core.Path.{ap, _∙_}
 use lib.ListN.{length}
 use native.Mathlib.Omega.{arith}
 use borrow.Author.Needs.{needs}
-use Rattle.print_bytes.specs.Put.{Put, put-same}
+use Rattle.print_bytes.specs.Put.{PutBytes, put-same}
 use Rattle.print_bytes.specs.Shown.{refusedBytes}
 use mathlib.Core.List.{List}
 use Prim.Native.Nat.{ℕ, _+_, _*_, _≤_}
@@ -15,25 +15,10 @@ use Rattle.print_lifted.specs.Room.{input-room}
 use Rattle.print_lifted.proofs.put_input.Statement.{statement}
 use Rattle.print_lifted.proofs.put_input.Tie as tie
 
-first-line-requires : tie.Need-first-line-requires
-first-line-requires c κs = search needs
-
-enum-known-first : tie.Need-enum-known-first
-enum-known-first c = search needs
-
 enum-told : tie.Need-enum-told
 enum-told c = search needs
 
-number-requires : tie.Need-number-requires
-number-requires c κs = search needs
-
-refused-requires : tie.Need-refused-requires
-refused-requires c κs = search needs
-
-same-length : tie.Need-same-length
-same-length c = search needs
-
-low : (out : ℕ) (input : List ℕ) (func work : ℕ) {w u : List ℕ} {n : ℕ} → Put w 0 (inputBytes input func work out) u n → n ≤ 12 * out + 21
+low : (out : ℕ) (input : List ℕ) (func work : ℕ) {w u : List ℕ} {n : ℕ} → PutBytes w 0 (inputBytes input func work out) u n → n ≤ 12 * out + 21
 low out input func work p = omega (arith, p .place, input-room out input func work)
 
 returns : tie.Need-returns
@@ -54,24 +39,6 @@ part-put-text-start c =
     let a = c .before .before .before .before .before .before .before .before .before .before .args in
     let h = line-low (a .input .now) (length (a .func .now)) (length (a .work .now)) (length (a .out .now)) _ (c .before .before .before .before .first-line .ensures) (c .before .before .first .given .1) in search needs
 
-part-put-text-end : tie.Need-part-put-text-end
-part-put-text-end c = search needs
-
-put-text-requires : tie.Need-put-text-requires
-put-text-requires c κs = search needs
-
-same-length-2 : tie.Need-same-length-2
-same-length-2 c = search needs
-
-same-length-3 : tie.Need-same-length-3
-same-length-3 c = search needs
-
-same-length-4 : tie.Need-same-length-4
-same-length-4 c = search needs
-
-same-length-5 : tie.Need-same-length-5
-same-length-5 c = search needs
-
 returns-2 : tie.Need-returns-2
 returns-2 c =
     let a = c .before .before .before .before .before .before .before .before .before .before .before .before .before .before .before .before .before .before .before .before .before .before .before .args in
@@ -90,19 +57,19 @@ pub put-input-spec : {M : Type 1} → statement M
 put-input-spec =
     tie.close
     (tie.spec
-    first-line-requires
-    enum-known-first
+    (λ c κs. search needs)
+    (λ c. search needs)
     enum-told
-    number-requires
-    refused-requires
-    same-length
+    (λ c κs. search needs)
+    (λ c κs. search needs)
+    (λ c. search needs)
     returns
     sub-put-text
     part-put-text-start
-    part-put-text-end
-    put-text-requires
-    same-length-2
-    same-length-3
-    same-length-4
-    same-length-5
+    (λ c. search needs)
+    (λ c κs. search needs)
+    (λ c. search needs)
+    (λ c. search needs)
+    (λ c. search needs)
+    (λ c. search needs)
     returns-2)

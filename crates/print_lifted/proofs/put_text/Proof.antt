@@ -6,26 +6,11 @@ use Rattle.print_lifted.specs.Input.{lifted-bytes, lifted-stands}
 use Rattle.print_lifted.proofs.put_text.Statement.{statement}
 use Rattle.print_lifted.proofs.put_text.Tie as tie
 
-lift-function-requires : tie.Need-lift-function-requires
-lift-function-requires c κs = search needs
-
 put-lifted-requires : tie.Need-put-lifted-requires
 put-lifted-requires c κs =
     let a = c .before .before .before .before .before .before .before .before .before .before .before .before .before .before .before .before .before .args in
     let e = c .before .before .before .before .before .before .before .before .lift-function .ensures in
     lifted-stands (a .text .now) (a .func .now) (a .work .now) (a .out .now) _ (a .first) (c .before .before .before .before .before .before .before .before .lift-function .result) (e .0) (e .1 .1 .1 .0)
-
-same-length : tie.Need-same-length
-same-length c = search needs
-
-same-length-2 : tie.Need-same-length-2
-same-length-2 c = search needs
-
-same-length-3 : tie.Need-same-length-3
-same-length-3 c = search needs
-
-same-length-4 : tie.Need-same-length-4
-same-length-4 c = search needs
 
 returns : tie.Need-returns
 returns c =
@@ -37,10 +22,10 @@ pub put-text-spec : {M : Type 1} → statement M
 put-text-spec =
     tie.close
     (tie.spec
-    lift-function-requires
+    (λ c κs. search needs)
     put-lifted-requires
-    same-length
-    same-length-2
-    same-length-3
-    same-length-4
+    (λ c. search needs)
+    (λ c. search needs)
+    (λ c. search needs)
+    (λ c. search needs)
     returns)

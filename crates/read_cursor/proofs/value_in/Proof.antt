@@ -2,21 +2,21 @@
 -- the part is refused (`part-none`, `part-more`).
 use borrow.Author.Needs.{needs}
 use Rattle.read_cursor.specs.Answers.{wordsOf}
-use Rattle.read_cursor.specs.Laws.{told}
+use Rattle.read_cursor.specs.Laws.{by-answer}
 use Rattle.read_cursor.proofs.Values.{part-none, part-whole, part-more}
 use Rattle.read_cursor.proofs.value_in.Statement.{statement}
 use Rattle.read_cursor.proofs.value_in.Tie as tie
 
 returns : tie.Need-returns
-returns c = part-none (told wordsOf (c .enum-told .given .1) (c .before .before .words .ensures))
+returns c = part-none (by-answer wordsOf (c .enum-told .given .1) (c .before .before .words .ensures))
 
 returns-2 : tie.Need-returns-2
 returns-2 c =
-    part-whole (told wordsOf (c .before .before .before .v .given .1) (c .before .before .before .before .before .words .ensures)) (c .if1 .taken) (c .before .end .ensures)
+    part-whole (by-answer wordsOf (c .before .before .before .v .given .1) (c .before .before .before .before .before .words .ensures)) (c .if1 .taken) (c .before .end .ensures)
 
 returns-3 : tie.Need-returns-3
 returns-3 c =
-    part-more (told wordsOf (c .before .before .before .v .given .1) (c .before .before .before .before .before .words .ensures)) (c .if1 .left) (c .before .end .ensures)
+    part-more (by-answer wordsOf (c .before .before .before .v .given .1) (c .before .before .before .before .before .words .ensures)) (c .if1 .left) (c .before .end .ensures)
 
 pub value-in-spec : {M : Type 1} → statement M
 value-in-spec =

@@ -11,14 +11,8 @@ returns c = known-short _ (omega arith)
 returns-2 : tie.Need-returns-2
 returns-2 c = known-enough _ (omega arith) (omega arith)
 
-first-line-requires : tie.Need-first-line-requires
-first-line-requires c κs = search needs
-
 enum-told : tie.Need-enum-told
 enum-told c = search needs
-
-enum-told-2 : tie.Need-enum-told-2
-enum-told-2 c = search needs
 
 returns-3 : tie.Need-returns-3
 returns-3 c = known-bad _ (omega arith) (omega arith) _ (c .before .before .first-line .ensures) (c .enum-told2 .given .1)
@@ -27,4 +21,4 @@ returns-4 : tie.Need-returns-4
 returns-4 c = known-good _ (omega arith) (omega arith) _ (c .before .before .first-line .ensures) (c .enum-told .given .1)
 
 pub input-known-spec : {M : Type 1} → statement M
-input-known-spec = tie.close (tie.spec returns returns-2 first-line-requires enum-told enum-told-2 returns-3 returns-4)
+input-known-spec = tie.close (tie.spec returns returns-2 (λ c κs. search needs) enum-told (λ c. search needs) returns-3 returns-4)

@@ -3,7 +3,7 @@
 use mathlib.Core.Path.{_∙_}
 use native.Mathlib.Omega.{arith}
 use Rattle.read_cursor.specs.Answers.{stepOf}
-use Rattle.read_cursor.specs.Laws.{told}
+use Rattle.read_cursor.specs.Laws.{by-answer}
 use Rattle.read_lines.specs.Stores.{met}
 use Rattle.read_text.specs.Chain.{text-headless, text-refused, text-whole}
 use borrow.Author.Needs.{needs}
@@ -12,12 +12,12 @@ use Rattle.read_text.proofs.read_text.Tie as tie
 
 returns : tie.Need-returns
 returns c =
-    let p = told stepOf (c .enum-told .given .1) (c .before .before .word .ensures) in
+    let p = by-answer stepOf (c .enum-told .given .1) (c .before .before .word .ensures) in
     (text-headless p, (search needs, search needs))
 
 returns-2 : tie.Need-returns-2
 returns-2 c =
-    let p = told stepOf (c .before .before .before .before .before .before .before .a .given .1) (c .before .before .before .before .before .before .before .before .before .word .ensures) in
+    let p = by-answer stepOf (c .before .before .before .before .before .before .before .a .given .1) (c .before .before .before .before .before .before .before .before .before .word .ensures) in
     let l = c .before .before .before .before .func-line in
     (text-refused p (met (c .enum-told2 .given .1) (l .ensures .0)), (l .ensures .1, search needs))
 
@@ -29,7 +29,7 @@ tail-lines-requires c κs =
 
 returns-3 : tie.Need-returns-3
 returns-3 c =
-    let p = told stepOf (c .before .before .before .before .before .before .before .before .before .before .before .before .before .before .before .a .given .1) (c .before .before .before .before .before .before .before .before .before .before .before .before .before .before .before .before .before .word .ensures) in
+    let p = by-answer stepOf (c .before .before .before .before .before .before .before .before .before .before .before .before .before .before .before .a .given .1) (c .before .before .before .before .before .before .before .before .before .before .before .before .before .before .before .before .before .word .ensures) in
     let l = c .before .before .before .before .before .before .before .before .before .before .before .before .func-line in
     let s = met (c .before .before .before .before .before .before .before .before .b .given .1) (l .ensures .0) in
     let k = c .before .before .before .before .tail-lines in

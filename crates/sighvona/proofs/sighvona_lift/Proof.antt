@@ -3,34 +3,10 @@ use mathlib.Core.Path.{sym, ap, subst, _∙_}
 use borrow.Author.Needs.{needs}
 use Rattle.emitter.specs.declared.Lifted.{Lifted}
 use Rattle.emitter.specs.Emit.{Wants, told}
-use Rattle.lifter.specs.Lift.{answerTo, wantedTo}
+use Rattle.lifter.specs.Entry.{answerTo, wantedTo}
 use Rattle.sighvona.specs.Numbers.{numbers-list, numbers-refusal}
 use Rattle.sighvona.proofs.sighvona_lift.Statement.{statement}
 use Rattle.sighvona.proofs.sighvona_lift.Tie as tie
-
-lift-function-requires : tie.Need-lift-function-requires
-lift-function-requires c κs = search needs
-
-enum-known-r : tie.Need-enum-known-r
-enum-known-r c = search needs
-
-enum-known-r-2 : tie.Need-enum-known-r-2
-enum-known-r-2 c = search needs
-
-words-told-requires : tie.Need-words-told-requires
-words-told-requires c κs = search needs
-
-number-requires : tie.Need-number-requires
-number-requires c κs = search needs
-
-same-length : tie.Need-same-length
-same-length c = search needs
-
-same-length-2 : tie.Need-same-length-2
-same-length-2 c = search needs
-
-same-length-3 : tie.Need-same-length-3
-same-length-3 c = search needs
 
 returns : tie.Need-returns
 returns c =
@@ -40,15 +16,6 @@ returns c =
     let k = wantedTo (a .text .now) (a .first) (a .func .now) (a .work .now) in
     let n = numbers-list x _ _ k (a .words .now) (a .next .now) (ap told (sym (c .before .r .given .1)) ∙ e .0) in
     (n .refusal, (n .count, (n .free, (e .1 .0, (e .1 .1 .0, e .1 .1 .1 .0)))))
-
-same-length-4 : tie.Need-same-length-4
-same-length-4 c = search needs
-
-same-length-5 : tie.Need-same-length-5
-same-length-5 c = search needs
-
-same-length-6 : tie.Need-same-length-6
-same-length-6 c = search needs
 
 returns-2 : tie.Need-returns-2
 returns-2 c =
@@ -64,16 +31,16 @@ pub sighvona-lift-spec : {M : Type 1} → statement M
 sighvona-lift-spec =
     tie.close
     (tie.spec
-    lift-function-requires
-    enum-known-r
-    enum-known-r-2
-    words-told-requires
-    number-requires
-    same-length
-    same-length-2
-    same-length-3
+    (λ c κs. search needs)
+    (λ c. search needs)
+    (λ c. search needs)
+    (λ c κs. search needs)
+    (λ c κs. search needs)
+    (λ c. search needs)
+    (λ c. search needs)
+    (λ c. search needs)
     returns
-    same-length-4
-    same-length-5
-    same-length-6
+    (λ c. search needs)
+    (λ c. search needs)
+    (λ c. search needs)
     returns-2)

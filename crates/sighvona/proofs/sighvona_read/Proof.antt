@@ -11,23 +11,8 @@ use Rattle.sighvona.specs.Numbers.{readLeaves, readOf}
 use Rattle.sighvona.proofs.sighvona_read.Statement.{statement}
 use Rattle.sighvona.proofs.sighvona_read.Tie as tie
 
-parse-requires : tie.Need-parse-requires
-parse-requires c κs = search needs
-
-enum-known-r : tie.Need-enum-known-r
-enum-known-r c = search needs
-
 enum-told : tie.Need-enum-told
 enum-told c = search needs
-
-clear-requires : tie.Need-clear-requires
-clear-requires c κs = search needs
-
-same-length : tie.Need-same-length
-same-length c = search needs
-
-same-length-2 : tie.Need-same-length-2
-same-length-2 c = search needs
 
 returns : tie.Need-returns
 returns c =
@@ -43,15 +28,6 @@ returns c =
         q .1 .1 ∙ ap (λ (x : answer.Parsed). workAfter x w) (sym e) ∙ ap (λ (x : answer.Parsed). readLeaves x w) e,
       ),
     )
-
-number-requires : tie.Need-number-requires
-number-requires c κs = search needs
-
-same-length-3 : tie.Need-same-length-3
-same-length-3 c = search needs
-
-same-length-4 : tie.Need-same-length-4
-same-length-4 c = search needs
 
 returns-2 : tie.Need-returns-2
 returns-2 c =
@@ -71,14 +47,14 @@ pub sighvona-read-spec : {M : Type 1} → statement M
 sighvona-read-spec =
     tie.close
     (tie.spec
-    parse-requires
-    enum-known-r
+    (λ c κs. search needs)
+    (λ c. search needs)
     enum-told
-    clear-requires
-    same-length
-    same-length-2
+    (λ c κs. search needs)
+    (λ c. search needs)
+    (λ c. search needs)
     returns
-    number-requires
-    same-length-3
-    same-length-4
+    (λ c κs. search needs)
+    (λ c. search needs)
+    (λ c. search needs)
     returns-2)

@@ -6,11 +6,11 @@ use native.Mathlib.Omega.{arith}
 use lib.ListN.{length}
 use borrow.Author.Needs.{needs}
 use borrow.Author.Tests.{not-true, not-false}
-use Rattle.laws.specs.Lists.{every}
+use Rattle.general_laws.specs.Lists.{every}
 use Rattle.func.specs.Layout.{poolTotal}
 use Rattle.func.specs.Store.{count, view}
 use Rattle.check_references.specs.Test.{poolFor, ruleTest, allTest}
-use Rattle.laws.specs.Every.{Rest, rest-first, rest-end, every-next, every-stop}
+use Rattle.general_laws.specs.Every.{Rest, rest-first, rest-end, every-next, every-stop}
 use Rattle.check_references.proofs.Laws.{pool-below, rule-length}
 use Rattle.check_references.proofs.rules.all_hold.Statement.{statement}
 use Rattle.check_references.proofs.rules.all_hold.Tie as tie

@@ -6,12 +6,12 @@ use native.Mathlib.Omega.{arith}
 use lib.Dec.{lit<}
 use lib.ListN.{length, getD, drop, set, length-set, drop-of-length-le}
 use borrow.Author.Needs.{needs}
-use Rattle.laws.specs.Lists.{distinct}
+use Rattle.general_laws.specs.Lists.{distinct}
 use Rattle.func.specs.Layout.{consts}
 use Rattle.func.specs.Store.{count}
 use Rattle.check_references.specs.declared.Rule.the-variants.{ConstId}
 use Rattle.check_references.specs.Test.{constIds, distinctTest}
-use Rattle.laws.specs.Every.{Marked, unmarked, mark-one, distinct-front, distinct-stop}
+use Rattle.general_laws.specs.Every.{Marked, unmarked, mark-one, distinct-front, distinct-stop}
 use Rattle.check_references.proofs.Laws.{ids-length, id-at}
 use Rattle.check_references.proofs.rules.consts_distinct.Statement.{statement}
 use Rattle.check_references.proofs.rules.consts_distinct.Tie as tie

@@ -5,12 +5,12 @@ use native.Mathlib.Omega.{arith}
 use lib.Dec.{lit<}
 use lib.ListN.{length, getD}
 use borrow.Author.Needs.{needs}
-use Rattle.laws.specs.Lists.{within}
+use Rattle.general_laws.specs.Lists.{within}
 use Rattle.func.specs.Layout.{consts}
 use Rattle.func.specs.Store.{count}
 use Rattle.check_references.specs.declared.Rule.the-variants.{ConstId}
 use Rattle.check_references.specs.Test.{constIds}
-use Rattle.laws.specs.Every.{Rest, rest-first, rest-end, within-next, within-stop}
+use Rattle.general_laws.specs.Every.{Rest, rest-first, rest-end, within-next, within-stop}
 use Rattle.check_references.proofs.Laws.{ids-length, id-at}
 use Rattle.check_references.proofs.rules.repeats.Statement.{statement}
 use Rattle.check_references.proofs.rules.repeats.Tie as tie

@@ -5,7 +5,7 @@ use Prim.Native.Nat.{ℕ}
 use native.Mathlib.Omega.{arith}
 use borrow.Author.Needs.{needs}
 use Rattle.func.specs.Decode.{funcOf}
-use Rattle.laws.specs.Members.{In}
+use Rattle.general_laws.specs.Members.{In}
 use Rattle.terminators.specs.At.{pointAt}
 use Rattle.emit_words.specs.Put.{put-length, put-same}
 use Rattle.emit_edges.specs.Ends.{edgesInto}

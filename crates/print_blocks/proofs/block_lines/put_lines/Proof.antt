@@ -9,13 +9,13 @@ use borrow.Author.Needs.{needs}
 use Rattle.lifting.specs.Walk.{walkOf}
 use Rattle.func.specs.Decode.{funcOf}
 use Rattle.lifting_blocks.specs.Flat.{upTo}
-use Rattle.print_bytes.specs.Put.{Put, put-none, put-more, put-same, put-length}
+use Rattle.print_bytes.specs.Put.{PutBytes, put-none, put-more, put-same, put-length}
 use Rattle.print_blocks.specs.Positions.{lineAt, lines-are}
 use Rattle.print_blocks.proofs.block_lines.put_lines.Statement.{statement}
 use Rattle.print_blocks.proofs.block_lines.put_lines.Tie as tie
 
 abbrev Inv-loop : tie.InvT-loop
-Inv-loop func work m out₀ at₀ i₀ out at i = (i ≤ m) × Put out₀ 0 (upTo (lineAt (funcOf func)) i) out at
+Inv-loop func work m out₀ at₀ i₀ out at i = (i ≤ m) × PutBytes out₀ 0 (upTo (lineAt (funcOf func)) i) out at
 
 abbrev μ-loop : tie.MeasureT-loop
 μ-loop func work m out₀ at₀ i₀ out at i = m - i

@@ -6,7 +6,7 @@ use native.Mathlib.Omega.{arith}
 use lib.ListN.{length}
 use Rattle.lifting.specs.Grammar.{entries}
 use Rattle.read_cursor.specs.Answers.{stepOf}
-use Rattle.read_cursor.specs.Laws.{told}
+use Rattle.read_cursor.specs.Laws.{by-answer}
 use Rattle.read_lines.specs.Stores.{Along, along-first, along-end, along-kept, along-wrong}
 use Rattle.read_ctrls.specs.Judge.{keepEdge}
 use Rattle.read_ctrls.specs.Tails.{entries-listing}
@@ -26,12 +26,12 @@ abbrev μ-loop : tie.MeasureT-loop
 returns : tie.Need-returns Inv-loop μ-loop
 returns c =
     let a = c .before .before .before .before .loop .inv in
-    (along-end entries-listing (a .0) (told stepOf (c .before .d .given .1) (c .before .before .before .close .ensures)), (a .0 .len, a .1))
+    (along-end entries-listing (a .0) (by-answer stepOf (c .before .d .given .1) (c .before .before .before .close .ensures)), (a .0 .len, a .1))
 
 returns-2 : tie.Need-returns-2 Inv-loop μ-loop
 returns-2 c =
     let a = c .before .before .before .before .before .before .before .before .before .before .before .before .loop .inv in
-    let unclosed = told stepOf (c .before .before .before .before .before .before .before .before .before .enum-told .given .1) (c .before .before .before .before .before .before .before .before .before .before .before .close .ensures) in
+    let unclosed = by-answer stepOf (c .before .before .before .before .before .before .before .before .before .enum-told .given .1) (c .before .before .before .before .before .before .before .before .before .before .before .close .ensures) in
     let e = c .before .before .before .before .before .before .entry .ensures in
     let s = edges-met (c .before .before .before .before .before .before .entry .last .0) (c .before .before .before .before .before .before .entry .last .1 .0) (c .enum-told2 .given .1) (e .0) in
     (along-wrong entries-listing (a .0) unclosed s, (e .1 .0 ∙ a .0 .len, e .1 .1 ∙ a .1))

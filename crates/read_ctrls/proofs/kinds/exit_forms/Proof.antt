@@ -2,7 +2,7 @@
 -- (`closed-refused`, `first-refused`).
 use Rattle.lifting.specs.Grammar.{closed, imms}
 use Rattle.read_cursor.specs.Answers.{stepOf}
-use Rattle.read_cursor.specs.Laws.{told}
+use Rattle.read_cursor.specs.Laws.{by-answer}
 use Rattle.read_lines.specs.Stores.{met, first-stored, first-refused}
 use Rattle.read_ctrls.specs.Tails.{ctrlLists}
 use Rattle.read_ctrls.specs.Answers.{keepForms}
@@ -19,13 +19,13 @@ returns c =
 returns-2 : tie.Need-returns-2
 returns-2 c =
     let s = met (c .before .before .before .before .c .given .1) (c .before .before .before .before .before .before .before .before .list .ensures .0) in
-    let p = told stepOf (c .enum-told2 .given .1) (c .before .before .close .ensures) in
+    let p = by-answer stepOf (c .enum-told2 .given .1) (c .before .before .close .ensures) in
     (first-refused (closed imms) ctrlLists (closed-stored s p), search needs)
 
 returns-3 : tie.Need-returns-3
 returns-3 c =
     let s = met (c .before .before .before .before .before .before .before .before .before .c .given .1) (c .before .before .before .before .before .before .before .before .before .before .before .before .before .list .ensures .0) in
-    let p = told stepOf (c .before .before .before .before .before .d .given .1) (c .before .before .before .before .before .before .before .close .ensures) in
+    let p = by-answer stepOf (c .before .before .before .before .before .d .given .1) (c .before .before .before .before .before .before .before .close .ensures) in
     (first-stored (closed imms) ctrlLists keepForms (closed-stored s p) (c .before .before .forms .ensures .0), search needs)
 
 pub exit-forms-spec : {M : Type 1} → statement M

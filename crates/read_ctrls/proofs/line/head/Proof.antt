@@ -7,7 +7,7 @@ use Rattle.lifting.specs.Codec.{same, view}
 use Rattle.read_cursor.specs.Answers.{controlOf, pairOf}
 use Rattle.read_cursor.specs.Heads.{controlHead}
 use Rattle.read_cursor.specs.declared.Control.{Control}
-use Rattle.read_cursor.specs.Laws.{head-misses, head-reads, told}
+use Rattle.read_cursor.specs.Laws.{head-misses, head-reads, by-answer}
 use Rattle.read_ctrls.specs.declared.CtrlHead.{CtrlHead}
 use Rattle.read_ctrls.specs.Tails.{ctrlHead, ctrlHeadForm}
 use Rattle.read_ctrls.proofs.line.head.Statement.{statement}
@@ -18,19 +18,19 @@ toHead x = record { region = x .0; attrs = x .1 .0; kind = x .1 .1 }
 
 returns : tie.Need-returns
 unfolding ctrlHeadForm ctrlHead same view
-returns c = head-misses (bytes "(ctrl") refl controlHead toHead (told pairOf (c .enum-told .given .1) (c .before .before .pair-after .ensures))
+returns c = head-misses (bytes "(ctrl") refl controlHead toHead (by-answer pairOf (c .enum-told .given .1) (c .before .before .pair-after .ensures))
 
 returns-2 : tie.Need-returns-2
 unfolding ctrlHeadForm ctrlHead same view
 returns-2 c =
-    let p = told pairOf (c .before .before .before .before .region .given .1) (c .before .before .before .before .before .before .pair-after .ensures) in
-    head-reads (bytes "(ctrl") refl controlHead toHead p (told controlOf (c .enum-told2 .given .1) (c .before .before .control .ensures))
+    let p = by-answer pairOf (c .before .before .before .before .region .given .1) (c .before .before .before .before .before .before .pair-after .ensures) in
+    head-reads (bytes "(ctrl") refl controlHead toHead p (by-answer controlOf (c .enum-told2 .given .1) (c .before .before .control .ensures))
 
 returns-3 : tie.Need-returns-3
 unfolding ctrlHeadForm ctrlHead same view
 returns-3 c =
-    let p = told pairOf (c .before .before .before .before .before .region .given .1) (c .before .before .before .before .before .before .before .pair-after .ensures) in
-    head-reads (bytes "(ctrl") refl controlHead toHead p (told controlOf (c .before .kind .given .1) (c .before .before .before .control .ensures))
+    let p = by-answer pairOf (c .before .before .before .before .before .region .given .1) (c .before .before .before .before .before .before .before .pair-after .ensures) in
+    head-reads (bytes "(ctrl") refl controlHead toHead p (by-answer controlOf (c .before .kind .given .1) (c .before .before .before .control .ensures))
 
 pub head-spec : {M : Type 1} → statement M
 head-spec =

@@ -2,17 +2,17 @@
 use borrow.Author.Needs.{needs}
 use Rattle.read_cursor.specs.Answers.{stepOf}
 use Rattle.read_cursor.specs.Heads.{instHead}
-use Rattle.read_cursor.specs.Laws.{told, sub-reads, sub-misses}
+use Rattle.read_cursor.specs.Laws.{by-answer, sub-reads, sub-misses}
 use Rattle.read_cursor.proofs.Cursor.exit.Statement.{statement}
 use Rattle.read_cursor.proofs.Cursor.exit.Tie as tie
 
 returns : tie.Need-returns
 returns c =
-    sub-misses "exit" instHead (told stepOf (c .enum-told .given .1) (c .before .before .word .ensures))
+    sub-misses "exit" instHead (by-answer stepOf (c .enum-told .given .1) (c .before .before .word .ensures))
 
 returns-2 : tie.Need-returns-2
 returns-2 c =
-    sub-reads "exit" instHead (told stepOf (c .before .before .c .given .1) (c .before .before .before .before .word .ensures)) (c .inst .ensures)
+    sub-reads "exit" instHead (by-answer stepOf (c .before .before .c .given .1) (c .before .before .before .before .word .ensures)) (c .inst .ensures)
 
 pub exit-spec : {M : Type 1} → statement M
 exit-spec =

@@ -5,19 +5,19 @@ use Rattle.lifting.specs.Digits.{number}
 use Rattle.lifting.specs.Codec.{num}
 use Rattle.lifting.specs.Grammar.{field}
 use Rattle.read_cursor.specs.Answers.{stepOf}
-use Rattle.read_cursor.specs.Laws.{told, behind-reads, behind-misses}
+use Rattle.read_cursor.specs.Laws.{by-answer, behind-reads, behind-misses}
 use Rattle.read_cursor.proofs.Cursor.field.Statement.{statement}
 use Rattle.read_cursor.proofs.Cursor.field.Tie as tie
 
 returns : tie.Need-returns
 unfolding field num
 returns c =
-    behind-misses (bytes " ") number (told stepOf (c .enum-told .given .1) (c .before .before .skip-space .ensures))
+    behind-misses (bytes " ") number (by-answer stepOf (c .enum-told .given .1) (c .before .before .skip-space .ensures))
 
 returns-2 : tie.Need-returns-2
 unfolding field num
 returns-2 c =
-    behind-reads (bytes " ") number (told stepOf (c .before .before .c .given .1) (c .before .before .before .before .skip-space .ensures)) (c .number .ensures)
+    behind-reads (bytes " ") number (by-answer stepOf (c .before .before .c .given .1) (c .before .before .before .before .skip-space .ensures)) (c .number .ensures)
 
 pub field-spec : {M : Type 1} → statement M
 field-spec =

@@ -4,47 +4,47 @@ use borrow.Author.Needs.{needs}
 use Rattle.lifting.specs.Codec.{lit, seq, same, view}
 use Rattle.lifting.specs.Grammar.{before, after, spaced, closed, imm}
 use Rattle.read_cursor.specs.Answers.{numberOf, pairOf, stepOf}
-use Rattle.read_cursor.specs.Laws.{told, onward}
+use Rattle.read_cursor.specs.Laws.{by-answer, onward}
 use Rattle.read_cursor.proofs.Cursor.imm.Statement.{statement}
 use Rattle.read_cursor.proofs.Cursor.imm.Tie as tie
 
 returns : tie.Need-returns
 unfolding imm spaced closed before after lit seq same view
 returns c =
-    let p = told stepOf (c .enum-told .given .1) (c .before .before .skip-space .ensures) in
+    let p = by-answer stepOf (c .enum-told .given .1) (c .before .before .skip-space .ensures) in
     record { is = rw (p .is); moves = tt }
 
 returns-2 : tie.Need-returns-2
 unfolding imm spaced closed before after lit seq same view
 returns-2 c =
-    let p = told stepOf (c .before .before .before .before .a .given .1) (c .before .before .before .before .before .before .skip-space .ensures) in
-    let q = told numberOf (c .enum-told2 .given .1) (c .before .before .opened .ensures) in
+    let p = by-answer stepOf (c .before .before .before .before .a .given .1) (c .before .before .before .before .before .before .skip-space .ensures) in
+    let q = by-answer numberOf (c .enum-told2 .given .1) (c .before .before .opened .ensures) in
     record { is = rw (p .is, q .is); moves = tt }
 
 returns-3 : tie.Need-returns-3
 unfolding imm spaced closed before after lit seq same view
 returns-3 c =
-    let p = told stepOf (c .before .before .before .before .before .before .before .before .a .given .1) (c .before .before .before .before .before .before .before .before .before .before .skip-space .ensures) in
-    let q = told numberOf (c .before .before .before .before .k .given .1) (c .before .before .before .before .before .before .opened .ensures) in
-    let r = told pairOf (c .enum-told3 .given .1) (c .before .before .pair .ensures) in
+    let p = by-answer stepOf (c .before .before .before .before .before .before .before .before .a .given .1) (c .before .before .before .before .before .before .before .before .before .before .skip-space .ensures) in
+    let q = by-answer numberOf (c .before .before .before .before .k .given .1) (c .before .before .before .before .before .before .opened .ensures) in
+    let r = by-answer pairOf (c .enum-told3 .given .1) (c .before .before .pair .ensures) in
     record { is = rw (p .is, q .is, r .is); moves = tt }
 
 returns-4 : tie.Need-returns-4
 unfolding imm spaced closed before after lit seq same view
 returns-4 c =
-    let p = told stepOf (c .before .before .before .before .before .before .before .before .before .before .before .before .a .given .1) (c .before .before .before .before .before .before .before .before .before .before .before .before .before .before .skip-space .ensures) in
-    let q = told numberOf (c .before .before .before .before .before .before .before .before .k .given .1) (c .before .before .before .before .before .before .before .before .before .before .opened .ensures) in
-    let r = told pairOf (c .before .before .before .before .o .given .1) (c .before .before .before .before .before .before .pair .ensures) in
-    let s = told stepOf (c .enum-told4 .given .1) (c .before .before .close .ensures) in
+    let p = by-answer stepOf (c .before .before .before .before .before .before .before .before .before .before .before .before .a .given .1) (c .before .before .before .before .before .before .before .before .before .before .before .before .before .before .skip-space .ensures) in
+    let q = by-answer numberOf (c .before .before .before .before .before .before .before .before .k .given .1) (c .before .before .before .before .before .before .before .before .before .before .opened .ensures) in
+    let r = by-answer pairOf (c .before .before .before .before .o .given .1) (c .before .before .before .before .before .before .pair .ensures) in
+    let s = by-answer stepOf (c .enum-told4 .given .1) (c .before .before .close .ensures) in
     record { is = rw (p .is, q .is, r .is, s .is); moves = tt }
 
 returns-5 : tie.Need-returns-5
 unfolding imm spaced closed before after lit seq same view
 returns-5 c =
-    let p = told stepOf (c .before .before .before .before .before .before .before .before .before .before .before .before .before .a .given .1) (c .before .before .before .before .before .before .before .before .before .before .before .before .before .before .before .skip-space .ensures) in
-    let q = told numberOf (c .before .before .before .before .before .before .before .before .before .k .given .1) (c .before .before .before .before .before .before .before .before .before .before .before .opened .ensures) in
-    let r = told pairOf (c .before .before .before .before .before .o .given .1) (c .before .before .before .before .before .before .before .pair .ensures) in
-    let s = told stepOf (c .before .d .given .1) (c .before .before .before .close .ensures) in
+    let p = by-answer stepOf (c .before .before .before .before .before .before .before .before .before .before .before .before .before .a .given .1) (c .before .before .before .before .before .before .before .before .before .before .before .before .before .before .before .skip-space .ensures) in
+    let q = by-answer numberOf (c .before .before .before .before .before .before .before .before .before .k .given .1) (c .before .before .before .before .before .before .before .before .before .before .before .opened .ensures) in
+    let r = by-answer pairOf (c .before .before .before .before .before .o .given .1) (c .before .before .before .before .before .before .before .pair .ensures) in
+    let s = by-answer stepOf (c .before .d .given .1) (c .before .before .before .close .ensures) in
     record { is = rw (p .is, q .is, r .is, s .is); moves = onward (p .moves) (onward (q .moves) (onward (r .moves) (s .moves))) }
 
 pub imm-spec : {M : Type 1} → statement M

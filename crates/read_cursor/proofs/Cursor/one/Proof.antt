@@ -3,28 +3,28 @@
 use borrow.Author.Needs.{needs}
 use Rattle.lifting.specs.Grammar.{field, one}
 use Rattle.read_cursor.specs.Answers.{numberOf, stepOf}
-use Rattle.read_cursor.specs.Laws.{told, closed-misses, closed-open, closed-reads}
+use Rattle.read_cursor.specs.Laws.{by-answer, closed-misses, closed-open, closed-reads}
 use Rattle.read_cursor.proofs.Cursor.one.Statement.{statement}
 use Rattle.read_cursor.proofs.Cursor.one.Tie as tie
 
 returns : tie.Need-returns
 unfolding one
 returns c =
-    closed-misses field (told numberOf (c .enum-told .given .1) (c .before .before .field .ensures))
+    closed-misses field (by-answer numberOf (c .enum-told .given .1) (c .before .before .field .ensures))
 
 returns-2 : tie.Need-returns-2
 unfolding one
 returns-2 c =
     closed-open field
-    (told numberOf (c .before .before .before .before .n .given .1) (c .before .before .before .before .before .before .field .ensures))
-    (told stepOf (c .enum-told2 .given .1) (c .before .before .close .ensures))
+    (by-answer numberOf (c .before .before .before .before .n .given .1) (c .before .before .before .before .before .before .field .ensures))
+    (by-answer stepOf (c .enum-told2 .given .1) (c .before .before .close .ensures))
 
 returns-3 : tie.Need-returns-3
 unfolding one
 returns-3 c =
     closed-reads field
-    (told numberOf (c .before .before .before .before .before .n .given .1) (c .before .before .before .before .before .before .before .field .ensures))
-    (told stepOf (c .before .d .given .1) (c .before .before .before .close .ensures))
+    (by-answer numberOf (c .before .before .before .before .before .n .given .1) (c .before .before .before .before .before .before .before .field .ensures))
+    (by-answer stepOf (c .before .d .given .1) (c .before .before .before .close .ensures))
 
 pub one-spec : {M : Type 1} → statement M
 one-spec =

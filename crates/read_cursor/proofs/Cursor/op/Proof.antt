@@ -5,25 +5,25 @@ use Rattle.lifting.specs.Bytes.{bytes}
 use Rattle.lifting.specs.Codec.{same, view}
 use Rattle.read_cursor.specs.Answers.{opKindOf, pairOf}
 use Rattle.read_cursor.specs.Heads.{opHead, opHeadForm, opKindHead, toOp}
-use Rattle.read_cursor.specs.Laws.{head-misses, head-reads, told}
+use Rattle.read_cursor.specs.Laws.{head-misses, head-reads, by-answer}
 use Rattle.read_cursor.proofs.Cursor.op.Statement.{statement}
 use Rattle.read_cursor.proofs.Cursor.op.Tie as tie
 
 returns : tie.Need-returns
 unfolding opHeadForm opHead same view
-returns c = head-misses (bytes "(op") refl opKindHead toOp (told pairOf (c .enum-told .given .1) (c .before .before .pair-after .ensures))
+returns c = head-misses (bytes "(op") refl opKindHead toOp (by-answer pairOf (c .enum-told .given .1) (c .before .before .pair-after .ensures))
 
 returns-2 : tie.Need-returns-2
 unfolding opHeadForm opHead same view
 returns-2 c =
-    let p = told pairOf (c .before .before .before .before .attrs .given .1) (c .before .before .before .before .before .before .pair-after .ensures) in
-    head-reads (bytes "(op") refl opKindHead toOp p (told opKindOf (c .enum-told2 .given .1) (c .before .before .op-kind .ensures))
+    let p = by-answer pairOf (c .before .before .before .before .attrs .given .1) (c .before .before .before .before .before .before .pair-after .ensures) in
+    head-reads (bytes "(op") refl opKindHead toOp p (by-answer opKindOf (c .enum-told2 .given .1) (c .before .before .op-kind .ensures))
 
 returns-3 : tie.Need-returns-3
 unfolding opHeadForm opHead same view
 returns-3 c =
-    let p = told pairOf (c .before .before .before .before .before .attrs .given .1) (c .before .before .before .before .before .before .before .pair-after .ensures) in
-    head-reads (bytes "(op") refl opKindHead toOp p (told opKindOf (c .before .kind .given .1) (c .before .before .before .op-kind .ensures))
+    let p = by-answer pairOf (c .before .before .before .before .before .attrs .given .1) (c .before .before .before .before .before .before .before .pair-after .ensures) in
+    head-reads (bytes "(op") refl opKindHead toOp p (by-answer opKindOf (c .before .kind .given .1) (c .before .before .before .op-kind .ensures))
 
 pub op-spec : {M : Type 1} → statement M
 op-spec =

@@ -3,37 +3,37 @@ use borrow.Author.Needs.{needs}
 use Rattle.lifting.specs.Codec.{same, view, alt}
 use Rattle.read_cursor.specs.Answers.{numberOf, pairOf}
 use Rattle.read_cursor.specs.Heads.{opKindHeadForm, opKindHead}
-use Rattle.read_cursor.specs.Laws.{told}
+use Rattle.read_cursor.specs.Laws.{by-answer}
 use Rattle.read_cursor.proofs.Cursor.op_kind.Statement.{statement}
 use Rattle.read_cursor.proofs.Cursor.op_kind.Tie as tie
 
 returns : tie.Need-returns
 unfolding opKindHead opKindHeadForm same view alt
 returns c =
-    let p = told numberOf (c .before .n .given .1) (c .before .before .before .inst .ensures) in
+    let p = by-answer numberOf (c .before .n .given .1) (c .before .before .before .inst .ensures) in
     record { is = rw (p .is); moves = p .moves }
 
 returns-2 : tie.Need-returns-2
 unfolding opKindHead opKindHeadForm same view alt
 returns-2 c =
-    let p = told numberOf (c .before .before .before .before .enum-told .given .1) (c .before .before .before .before .before .before .inst .ensures) in
-    let q = told numberOf (c .before .n2 .given .1) (c .before .before .before .call .ensures) in
+    let p = by-answer numberOf (c .before .before .before .before .enum-told .given .1) (c .before .before .before .before .before .before .inst .ensures) in
+    let q = by-answer numberOf (c .before .n2 .given .1) (c .before .before .before .call .ensures) in
     record { is = rw (p .is, q .is); moves = q .moves }
 
 returns-3 : tie.Need-returns-3
 unfolding opKindHead opKindHeadForm same view alt
 returns-3 c =
-    let p = told numberOf (c .before .before .before .before .before .before .enum-told .given .1) (c .before .before .before .before .before .before .before .before .inst .ensures) in
-    let q = told numberOf (c .before .before .before .enum-told2 .given .1) (c .before .before .before .before .before .call .ensures) in
-    let r = told pairOf (c .enum-told3 .given .1) (c .before .before .ext .ensures) in
+    let p = by-answer numberOf (c .before .before .before .before .before .before .enum-told .given .1) (c .before .before .before .before .before .before .before .before .inst .ensures) in
+    let q = by-answer numberOf (c .before .before .before .enum-told2 .given .1) (c .before .before .before .before .before .call .ensures) in
+    let r = by-answer pairOf (c .enum-told3 .given .1) (c .before .before .ext .ensures) in
     record { is = rw (p .is, q .is, r .is); moves = tt }
 
 returns-4 : tie.Need-returns-4
 unfolding opKindHead opKindHeadForm same view alt
 returns-4 c =
-    let p = told numberOf (c .before .before .before .before .before .before .before .enum-told .given .1) (c .before .before .before .before .before .before .before .before .before .inst .ensures) in
-    let q = told numberOf (c .before .before .before .before .enum-told2 .given .1) (c .before .before .before .before .before .before .call .ensures) in
-    let r = told pairOf (c .before .m .given .1) (c .before .before .before .ext .ensures) in
+    let p = by-answer numberOf (c .before .before .before .before .before .before .before .enum-told .given .1) (c .before .before .before .before .before .before .before .before .before .inst .ensures) in
+    let q = by-answer numberOf (c .before .before .before .before .enum-told2 .given .1) (c .before .before .before .before .before .before .call .ensures) in
+    let r = by-answer pairOf (c .before .m .given .1) (c .before .before .before .ext .ensures) in
     record { is = rw (p .is, q .is, r .is); moves = r .moves }
 
 pub op-kind-spec : {M : Type 1} → statement M

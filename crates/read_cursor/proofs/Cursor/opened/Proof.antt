@@ -5,18 +5,18 @@ use Rattle.lifting.specs.Digits.{number}
 use Rattle.lifting.specs.Codec.{num}
 use Rattle.lifting.specs.Grammar.{open1}
 use Rattle.read_cursor.specs.Answers.{stepOf}
-use Rattle.read_cursor.specs.Laws.{told, behind-reads, behind-misses}
+use Rattle.read_cursor.specs.Laws.{by-answer, behind-reads, behind-misses}
 use Rattle.read_cursor.proofs.Cursor.opened.Statement.{statement}
 use Rattle.read_cursor.proofs.Cursor.opened.Tie as tie
 
 returns : tie.Need-returns
 unfolding open1 num
-returns c = behind-misses (bytes "(") number (told stepOf (c .enum-told .given .1) (c .before .before .«open» .ensures))
+returns c = behind-misses (bytes "(") number (by-answer stepOf (c .enum-told .given .1) (c .before .before .«open» .ensures))
 
 returns-2 : tie.Need-returns-2
 unfolding open1 num
 returns-2 c =
-    behind-reads (bytes "(") number (told stepOf (c .before .before .c .given .1) (c .before .before .before .before .«open» .ensures)) (c .number .ensures)
+    behind-reads (bytes "(") number (by-answer stepOf (c .before .before .c .given .1) (c .before .before .before .before .«open» .ensures)) (c .number .ensures)
 
 pub opened-spec : {M : Type 1} → statement M
 opened-spec =

@@ -3,17 +3,17 @@ use borrow.Author.Needs.{needs}
 use Rattle.lifting.specs.Codec.{seq}
 use Rattle.lifting.specs.Grammar.{field}
 use Rattle.read_cursor.specs.Answers.{stepOf}
-use Rattle.read_cursor.specs.Laws.{told, behind-reads, behind-misses}
+use Rattle.read_cursor.specs.Laws.{by-answer, behind-reads, behind-misses}
 use Rattle.read_cursor.proofs.Cursor.pair_after.Statement.{statement}
 use Rattle.read_cursor.proofs.Cursor.pair_after.Tie as tie
 
 returns : tie.Need-returns
 returns c =
-    behind-misses _ (seq field field .read) (told stepOf (c .enum-told .given .1) (c .before .before .word .ensures))
+    behind-misses _ (seq field field .read) (by-answer stepOf (c .enum-told .given .1) (c .before .before .word .ensures))
 
 returns-2 : tie.Need-returns-2
 returns-2 c =
-    behind-reads _ (seq field field .read) (told stepOf (c .before .before .c .given .1) (c .before .before .before .before .word .ensures)) (c .pair .ensures)
+    behind-reads _ (seq field field .read) (by-answer stepOf (c .before .before .c .given .1) (c .before .before .before .before .word .ensures)) (c .pair .ensures)
 
 pub pair-after-spec : {M : Type 1} → statement M
 pair-after-spec =

@@ -4,28 +4,28 @@ use Rattle.lifting.specs.Codec.{lit, same, view, alt}
 use Rattle.lifting.specs.Grammar.{keyword}
 use Rattle.read_cursor.specs.Answers.{numberOf, stepOf}
 use Rattle.read_cursor.specs.Heads.{selectionHeadForm, selectionHead}
-use Rattle.read_cursor.specs.Laws.{told}
+use Rattle.read_cursor.specs.Laws.{by-answer}
 use Rattle.read_cursor.proofs.Cursor.selection.Statement.{statement}
 use Rattle.read_cursor.proofs.Cursor.selection.Tie as tie
 
 returns : tie.Need-returns
 unfolding selectionHead selectionHeadForm keyword lit same view alt
 returns c =
-    let p = told stepOf (c .before .c .given .1) (c .before .before .before .word .ensures) in
+    let p = by-answer stepOf (c .before .c .given .1) (c .before .before .before .word .ensures) in
     record { is = rw (p .is); moves = p .moves }
 
 returns-2 : tie.Need-returns-2
 unfolding selectionHead selectionHeadForm keyword lit same view alt
 returns-2 c =
-    let p = told stepOf (c .before .before .before .enum-told .given .1) (c .before .before .before .before .before .word .ensures) in
-    let q = told numberOf (c .enum-told2 .given .1) (c .before .before .inst .ensures) in
+    let p = by-answer stepOf (c .before .before .before .enum-told .given .1) (c .before .before .before .before .before .word .ensures) in
+    let q = by-answer numberOf (c .enum-told2 .given .1) (c .before .before .inst .ensures) in
     record { is = rw (p .is, q .is); moves = tt }
 
 returns-3 : tie.Need-returns-3
 unfolding selectionHead selectionHeadForm keyword lit same view alt
 returns-3 c =
-    let p = told stepOf (c .before .before .before .before .enum-told .given .1) (c .before .before .before .before .before .before .word .ensures) in
-    let q = told numberOf (c .before .n .given .1) (c .before .before .before .inst .ensures) in
+    let p = by-answer stepOf (c .before .before .before .before .enum-told .given .1) (c .before .before .before .before .before .before .word .ensures) in
+    let q = by-answer numberOf (c .before .n .given .1) (c .before .before .before .inst .ensures) in
     record { is = rw (p .is, q .is); moves = q .moves }
 
 pub selection-spec : {M : Type 1} → statement M

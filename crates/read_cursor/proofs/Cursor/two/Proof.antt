@@ -4,28 +4,28 @@ use borrow.Author.Needs.{needs}
 use Rattle.lifting.specs.Codec.{seq}
 use Rattle.lifting.specs.Grammar.{field, two}
 use Rattle.read_cursor.specs.Answers.{pairOf, stepOf}
-use Rattle.read_cursor.specs.Laws.{told, closed-misses, closed-open, closed-reads}
+use Rattle.read_cursor.specs.Laws.{by-answer, closed-misses, closed-open, closed-reads}
 use Rattle.read_cursor.proofs.Cursor.two.Statement.{statement}
 use Rattle.read_cursor.proofs.Cursor.two.Tie as tie
 
 returns : tie.Need-returns
 unfolding two
 returns c =
-    closed-misses (seq field field) (told pairOf (c .enum-told .given .1) (c .before .before .pair .ensures))
+    closed-misses (seq field field) (by-answer pairOf (c .enum-told .given .1) (c .before .before .pair .ensures))
 
 returns-2 : tie.Need-returns-2
 unfolding two
 returns-2 c =
     closed-open (seq field field)
-    (told pairOf (c .before .before .before .before .m .given .1) (c .before .before .before .before .before .before .pair .ensures))
-    (told stepOf (c .enum-told2 .given .1) (c .before .before .close .ensures))
+    (by-answer pairOf (c .before .before .before .before .m .given .1) (c .before .before .before .before .before .before .pair .ensures))
+    (by-answer stepOf (c .enum-told2 .given .1) (c .before .before .close .ensures))
 
 returns-3 : tie.Need-returns-3
 unfolding two
 returns-3 c =
     closed-reads (seq field field)
-    (told pairOf (c .before .before .before .before .before .m .given .1) (c .before .before .before .before .before .before .before .pair .ensures))
-    (told stepOf (c .before .d .given .1) (c .before .before .before .close .ensures))
+    (by-answer pairOf (c .before .before .before .before .before .m .given .1) (c .before .before .before .before .before .before .before .pair .ensures))
+    (by-answer stepOf (c .before .d .given .1) (c .before .before .before .close .ensures))
 
 pub two-spec : {M : Type 1} → statement M
 two-spec =

@@ -6,25 +6,25 @@ use native.Mathlib.Omega.{arith}
 use lib.ListN.{length}
 use borrow.Author.Needs.{needs}
 use Rattle.read_cursor.specs.Answers.{stepOf, partOf}
-use Rattle.read_cursor.specs.Laws.{told}
+use Rattle.read_cursor.specs.Laws.{by-answer}
 use Rattle.read_cursor.proofs.Values.{value-off, value-inside, value-on, value-not}
 use Rattle.read_cursor.proofs.Cursor.value.Statement.{statement}
 use Rattle.read_cursor.proofs.Cursor.value.Tie as tie
 
 returns : tie.Need-returns
-returns c = value-off (told stepOf (c .enum-told .given .1) (c .before .before .word .ensures))
+returns c = value-off (by-answer stepOf (c .enum-told .given .1) (c .before .before .word .ensures))
 
 sub-form : tie.Need-sub-form
-sub-form c = omega (arith, told stepOf (c .before .c .given .1) (c .before .before .before .word .ensures) .moves .moved)
+sub-form c = omega (arith, by-answer stepOf (c .before .c .given .1) (c .before .before .before .word .ensures) .moves .moved)
 
 returns-2 : tie.Need-returns-2
 returns-2 c =
-    value-not (told stepOf (c .before .before .before .before .before .c .given .1) (c .before .before .before .before .before .before .before .word .ensures)) (c .before .before .before .form .ensures) (c .before .before .value-in .ensures ∙ ap partOf (c .enum-told2 .given .1))
+    value-not (by-answer stepOf (c .before .before .before .before .before .c .given .1) (c .before .before .before .before .before .before .before .word .ensures)) (c .before .before .before .form .ensures) (c .before .before .value-in .ensures ∙ ap partOf (c .enum-told2 .given .1))
 
 -- the value's form ends within the text
 room : (c : tie.After-known-told2) → c .before .before .before .before .before .before .c .given .0 .0 .at + length (c .before .before .before .before .form .result .now) + 1 ≤ length (c .before .before .before .before .before .before .before .before .before .before .before .args .text .now)
 room c =
-    value-inside (told stepOf (c .before .before .before .before .before .before .c .given .1) (c .before .before .before .before .before .before .before .before .word .ensures)) (c .before .before .before .before .form .ensures) (c .before .before .before .value-in .ensures ∙ ap partOf (c .before .v .given .1)) .fits
+    value-inside (by-answer stepOf (c .before .before .before .before .before .before .c .given .1) (c .before .before .before .before .before .before .before .before .word .ensures)) (c .before .before .before .before .form .ensures) (c .before .before .before .value-in .ensures ∙ ap partOf (c .before .v .given .1)) .fits
 
 add-t13 : tie.Need-add-t13
 add-t13 c = omega (arith, room c)
@@ -34,7 +34,7 @@ add-t14 c = omega (arith, room c)
 
 returns-3 : tie.Need-returns-3
 returns-3 c =
-    value-on (told stepOf (c .before .before .before .before .before .before .c .given .1) (c .before .before .before .before .before .before .before .before .word .ensures)) (c .before .before .before .before .form .ensures) (c .before .v .given .0 .0) (c .before .before .before .value-in .ensures ∙ ap partOf (c .before .v .given .1))
+    value-on (by-answer stepOf (c .before .before .before .before .before .before .c .given .1) (c .before .before .before .before .before .before .before .before .word .ensures)) (c .before .before .before .before .form .ensures) (c .before .v .given .0 .0) (c .before .before .before .value-in .ensures ∙ ap partOf (c .before .v .given .1))
 
 pub value-spec : {M : Type 1} → statement M
 value-spec =

@@ -2,7 +2,7 @@
 -- missed nothing is.
 use Rattle.lifting.specs.Grammar.{two}
 use Rattle.read_cursor.specs.Answers.{pairOf, stepOf}
-use Rattle.read_cursor.specs.Laws.{told}
+use Rattle.read_cursor.specs.Laws.{by-answer}
 use Rattle.func.specs.Kinds.{constFrom}
 use Rattle.read_lines.specs.Stores.{as-up, stores-none, stores-one}
 use Rattle.read_lines.specs.Tails.{ended}
@@ -13,19 +13,19 @@ use Rattle.read_heads.proofs.heads.const_line.Tie as tie
 
 returns : tie.Need-returns
 returns c =
-    let p = told pairOf (c .enum-told .given .1) (c .before .before .two .ensures) in
+    let p = by-answer pairOf (c .enum-told .given .1) (c .before .before .two .ensures) in
     (as-up (ended two .read) (λ x. constFrom (x .0) (x .1)) (ended-refused two (stores-none p)), search needs)
 
 returns-2 : tie.Need-returns-2
 returns-2 c =
-    let p = told pairOf (c .before .before .before .before .before .m .given .1) (c .before .before .before .before .before .before .before .two .ensures) in
-    let q = told stepOf (c .enum-told2 .given .1) (c .before .before .word .ensures) in
+    let p = by-answer pairOf (c .before .before .before .before .before .m .given .1) (c .before .before .before .before .before .before .before .two .ensures) in
+    let q = by-answer stepOf (c .enum-told2 .given .1) (c .before .before .word .ensures) in
     (as-up (ended two .read) (λ x. constFrom (x .0) (x .1)) (ended-denied two p q), search needs)
 
 returns-3 : tie.Need-returns-3
 returns-3 c =
-    let p = told pairOf (c .before .before .before .before .before .before .before .before .before .before .m .given .1) (c .before .before .before .before .before .before .before .before .before .before .before .before .two .ensures) in
-    let q = told stepOf (c .before .before .before .before .before .d .given .1) (c .before .before .before .before .before .before .before .word .ensures) in
+    let p = by-answer pairOf (c .before .before .before .before .before .before .before .before .before .before .m .given .1) (c .before .before .before .before .before .before .before .before .before .before .before .before .two .ensures) in
+    let q = by-answer stepOf (c .before .before .before .before .before .d .given .1) (c .before .before .before .before .before .before .before .word .ensures) in
     (as-up (ended two .read) (λ x. constFrom (x .0) (x .1)) (ended-stored two (stores-one p (c .before .before .keep-const .ensures .0)) q), search needs)
 
 pub const-line-spec : {M : Type 1} → statement M

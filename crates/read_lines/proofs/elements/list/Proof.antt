@@ -2,7 +2,7 @@
 use Prim.Native.Nat.{_-_}
 use lib.ListN.{length}
 use Rattle.read_cursor.specs.Answers.{stepOf}
-use Rattle.read_cursor.specs.Laws.{told}
+use Rattle.read_cursor.specs.Laws.{by-answer}
 use Rattle.read_lines.specs.Stores.{Along, along-first, along-kept, along-end, along-wrong, met}
 use Rattle.read_lines.specs.Elements.{keepElement, listOf, listing}
 use Rattle.read_lines.specs.Laws.{less}
@@ -19,11 +19,11 @@ abbrev μ-loop : tie.MeasureT-loop
 returns : tie.Need-returns Inv-loop μ-loop
 returns c =
     let a = c .before .before .before .before .loop .inv in
-    (along-end (listing (c .before .before .before .before .before .before .before .args .what)) a (told stepOf (c .before .d .given .1) (c .before .before .before .close .ensures)), a .len)
+    (along-end (listing (c .before .before .before .before .before .before .before .args .what)) a (by-answer stepOf (c .before .d .given .1) (c .before .before .before .close .ensures)), a .len)
 
 returns-2 : tie.Need-returns-2 Inv-loop μ-loop
 returns-2 c =
-    let unclosed = told stepOf (c .before .before .before .before .before .before .enum-told .given .1) (c .before .before .before .before .before .before .before .before .close .ensures) in
+    let unclosed = by-answer stepOf (c .before .before .before .before .before .before .enum-told .given .1) (c .before .before .before .before .before .before .before .before .close .ensures) in
     (along-wrong (listing (c .before .before .before .before .before .before .before .before .before .before .before .before .args .what)) (c .before .before .before .before .before .before .before .before .before .loop .inv) unclosed (met (c .enum-told2 .given .1) (c .before .before .before .before .element .ensures .0)), search needs)
 
 loop-less : tie.Need-loop-less Inv-loop μ-loop

@@ -2,7 +2,7 @@
 -- `last-open`).
 use Rattle.lifting.specs.Grammar.{field}
 use Rattle.read_cursor.specs.Answers.{numberOf, stepOf}
-use Rattle.read_cursor.specs.Laws.{told}
+use Rattle.read_cursor.specs.Laws.{by-answer}
 use Rattle.read_lines.specs.Tails.{control}
 use Rattle.read_lines.specs.Laws.{last-misses, last-open, last-reads}
 use borrow.Author.Needs.{needs}
@@ -11,21 +11,21 @@ use Rattle.read_lines.proofs.forms.control_end.Tie as tie
 
 returns : tie.Need-returns
 unfolding control
-returns c = last-misses field (told numberOf (c .enum-told .given .1) (c .before .before .field .ensures))
+returns c = last-misses field (by-answer numberOf (c .enum-told .given .1) (c .before .before .field .ensures))
 
 returns-2 : tie.Need-returns-2
 unfolding control
 returns-2 c =
     last-open field
-    (told numberOf (c .before .before .before .before .before .u .given .1) (c .before .before .before .before .before .before .before .field .ensures))
-    (told stepOf (c .enum-told2 .given .1) (c .before .before .word .ensures))
+    (by-answer numberOf (c .before .before .before .before .before .u .given .1) (c .before .before .before .before .before .before .before .field .ensures))
+    (by-answer stepOf (c .enum-told2 .given .1) (c .before .before .word .ensures))
 
 returns-3 : tie.Need-returns-3
 unfolding control
 returns-3 c =
     last-reads field
-    (told numberOf (c .before .before .before .before .before .before .u .given .1) (c .before .before .before .before .before .before .before .before .field .ensures))
-    (told stepOf (c .before .d .given .1) (c .before .before .before .word .ensures))
+    (by-answer numberOf (c .before .before .before .before .before .before .u .given .1) (c .before .before .before .before .before .before .before .before .field .ensures))
+    (by-answer stepOf (c .before .d .given .1) (c .before .before .before .word .ensures))
 
 pub control-end-spec : {M : Type 1} → statement M
 control-end-spec =

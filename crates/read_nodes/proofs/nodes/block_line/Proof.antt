@@ -2,7 +2,7 @@
 use Rattle.lifting.specs.Ast.{block}
 use Rattle.lifting.specs.Grammar.{numbers}
 use Rattle.read_cursor.specs.Answers.{stepOf}
-use Rattle.read_cursor.specs.Laws.{told}
+use Rattle.read_cursor.specs.Laws.{by-answer}
 use Rattle.read_lines.specs.Stores.{as-up, met, stores-not}
 use Rattle.read_lines.specs.Tails.{ended}
 use Rattle.read_lines.specs.Laws.{ended-refused, ended-stored}
@@ -19,14 +19,14 @@ returns c =
 returns-2 : tie.Need-returns-2
 returns-2 c =
     let q = met (c .before .before .before .before .before .c .given .1) (c .before .before .before .before .before .before .before .before .before .list .ensures .0) in
-    let r = told stepOf (c .enum-told2 .given .1) (c .before .before .word .ensures) in
+    let r = by-answer stepOf (c .enum-told2 .given .1) (c .before .before .word .ensures) in
     (as-up (ended numbers .read) block (stores-not (ended-stored numbers q r)), search needs)
 
 returns-3 : tie.Need-returns-3
 returns-3 c =
     let began = c .before .before .before .before .before .before .before .before .before .before .before .before .before .before .before .before .begin .ensures in
     let q = met (c .before .before .before .before .before .before .before .before .before .before .c .given .1) (c .before .before .before .before .before .before .before .before .before .before .before .before .before .before .list .ensures .0) in
-    let r = told stepOf (c .before .before .before .before .before .d .given .1) (c .before .before .before .before .before .before .before .word .ensures) in
+    let r = by-answer stepOf (c .before .before .before .before .before .d .given .1) (c .before .before .before .before .before .before .before .word .ensures) in
     (block-stored began (ended-stored numbers q r) (c .before .before .node-row .ensures .0), search needs)
 
 pub block-line-spec : {M : Type 1} → statement M

@@ -10,12 +10,6 @@ use borrow.Author.Needs.{needs}
 use Rattle.walk_roots.proofs.walk.way.Statement.{statement}
 use Rattle.walk_roots.proofs.walk.way.Tie as tie
 
-ctrl-at-requires : tie.Need-ctrl-at-requires
-ctrl-at-requires c κs = search needs
-
-enum-known-c : tie.Need-enum-known-c
-enum-known-c c = search needs
-
 target-requires : tie.Need-target-requires
 target-requires c κs =
     let a = c .before .before .before .before .before .before in
@@ -38,4 +32,4 @@ returns-2 c =
 
 pub way-spec : {M : Type 1} → statement M
 way-spec =
-    tie.close (tie.spec ctrl-at-requires enum-known-c target-requires enum-told returns returns-2)
+    tie.close (tie.spec (λ c κs. search needs) (λ c. search needs) target-requires enum-told returns returns-2)

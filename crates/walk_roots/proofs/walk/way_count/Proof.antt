@@ -8,12 +8,6 @@ use borrow.Author.Needs.{needs}
 use Rattle.walk_roots.proofs.walk.way_count.Statement.{statement}
 use Rattle.walk_roots.proofs.walk.way_count.Tie as tie
 
-ctrl-at-requires : tie.Need-ctrl-at-requires
-ctrl-at-requires c κs = search needs
-
-enum-known-c : tie.Need-enum-known-c
-enum-known-c c = search needs
-
 target-count-requires : tie.Need-target-count-requires
 target-count-requires c κs =
     let a = c .before .before .before .before .before .before in
@@ -37,4 +31,4 @@ returns-2 c =
 pub way-count-spec : {M : Type 1} → statement M
 way-count-spec =
     tie.close
-    (tie.spec ctrl-at-requires enum-known-c target-count-requires enum-told returns returns-2)
+    (tie.spec (λ c κs. search needs) (λ c. search needs) target-count-requires enum-told returns returns-2)

@@ -13,8 +13,8 @@ use native.Mathlib.Numerals.{add-one}
 use native.Mathlib.Omega.{arith}
 use lib.ListN.{length, getD, set, drop, length-drop, drop-of-length-le}
 use lib.Seq.{drop-cons, getD-drop, getD-set-same, getD-set-other}
-use Rattle.laws.specs.Lists.{every, gather, keys, within, distinct, choose-yes, choose-no}
-use Rattle.laws.specs.Tests.{both}
+use Rattle.general_laws.specs.Lists.{every, gather, keys, within, distinct, choose-yes, choose-no}
+use Rattle.general_laws.specs.Tests.{both}
 
 pub every-append : {A : Type 0} (p : A → Bool) (xs ys : List A) → every p (xs ++ ys) ≡ (every p xs && every p ys)
 every-append p [] ys = refl

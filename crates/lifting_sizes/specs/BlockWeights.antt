@@ -7,10 +7,10 @@ use mathlib.Core.Option.{Option, none}
 use Prim.Native.Nat.{ℕ, zero, suc, _+_, _-_, _*_, _≤_, _<_}
 use native.Mathlib.Omega.{arith}
 use lib.ListN.{getD, length, length-append, length-map}
-use Rattle.laws.specs.Gather.{gather-none, gather-single}
+use Rattle.general_laws.specs.Gather.{gather-none, gather-single}
 use Rattle.opcodes.specs.Table.{opcodeOf}
 use Rattle.opcodes.specs.declared.InstKind.the-variants.{LoopMerge, SelectionMerge}
-use Rattle.laws.specs.Lists.{find, gather}
+use Rattle.general_laws.specs.Lists.{find, gather}
 use Rattle.lifting.specs.Ast.{ControlInstKind, DataInstKind, Decl, Func, Imm, Node, Value, block, boolCond, branch, call, const, exit, exitInvocation, ext, inst, loop, return, select, selectBranch, spvInst, unreachable}
 use Rattle.lifting.specs.Parts.{calleeIds, ctrlInsts, nodeOf, opInsts, opOf, valsOr}
 use Rattle.lifting.specs.Points.{BlockLifting, CfgPoint, Merge, Table, Terminator, edgeOf, eqPoint, loopMerge, noMerge, selectionMerge}
@@ -19,7 +19,7 @@ use Rattle.lifting.specs.Absorb.{countIn, kept, useCount}
 use Rattle.lifting.specs.Ids.{idOf, labelOf, phiKeys}
 use Rattle.lifting.specs.Instructions.{Instruction, bare, blockInsts, ifUsed, labelInst, loopControl, mergeInsts, opImms, opInst, pairs, phiInst, phiInsts, selectionControl, short, termImms, termInst}
 use Rattle.lifting.specs.Words.{immWords, instWords, words}
-use Rattle.laws.specs.Members.{All, In, all-in}
+use Rattle.general_laws.specs.Members.{All, In, all-in}
 use Rattle.lifting_runs.specs.Pairs.{counted-in}
 use Rattle.lifting_runs.specs.Tour.{find-unique, unique-of}
 use Rattle.lifting_runs.specs.Terms.{TermOk}
@@ -27,7 +27,7 @@ use Rattle.lifting_runs.specs.Shaped.{Shaped, walk-once}
 use Rattle.lifting_blocks.specs.Chain.{chain-all, some-same}
 use Rattle.lifting_blocks.specs.Steps.{Step, step-entry, step-exit, step-in, step-out, walk-steps}
 use Rattle.lifting_blocks.specs.Gathered.{words-gather}
-use Rattle.lifting_blocks.specs.Flat.{Pass, Status, glueAt, goes, gone, noPair, part, partAt, starts, statusAt, unlessGlued, upTo}
+use Rattle.lifting_blocks.specs.Flat.{Pass, Status, absorbsHere, goes, gone, noPair, part, partAt, starts, statusAt, unlessAbsorbs, upTo}
 use Rattle.lifting_blocks.specs.ListFlat.{pairing, writing}
 use Rattle.lifting_blocks.specs.Totals.{total, total-add}
 use Rattle.lifting_blocks.specs.Laws
@@ -41,7 +41,7 @@ module _ {A : Type 0} (wt : A → ℕ) (m : Pass A) (P : Terminator → Type 0) 
   partWeight x = total wt (m .start (x .0) (x .1 .keys) (x .1 .decls)) + (total wt (gather (m .op) (x .1 .ops)) + e (x .1 .term))
 
   -- an end that may be absorbed, a part, and all parts
-  end-weight : (g : Bool) (h : CfgPoint) (t : Terminator) → P t → total wt (unlessGlued m g (m .end h t)) ≤ e t
+  end-weight : (g : Bool) (h : CfgPoint) (t : Terminator) → P t → total wt (unlessAbsorbs m g (m .end h t)) ≤ e t
   end-weight true h t p = omega arith
   end-weight false h t p = ends h t p
 
@@ -50,19 +50,19 @@ module _ {A : Type 0} (wt : A → ℕ) (m : Pass A) (P : Terminator → Type 0) 
   part-weight gone g x p = omega arith
   part-weight starts g x p = omega (
     arith,
-    total-append wt (m .start (x .0) (x .1 .keys) (x .1 .decls)) (gather (m .op) (x .1 .ops) ++ unlessGlued m g (m .end (x .0) (x .1 .term))),
-    total-append wt (gather (m .op) (x .1 .ops)) (unlessGlued m g (m .end (x .0) (x .1 .term))),
+    total-append wt (m .start (x .0) (x .1 .keys) (x .1 .decls)) (gather (m .op) (x .1 .ops) ++ unlessAbsorbs m g (m .end (x .0) (x .1 .term))),
+    total-append wt (gather (m .op) (x .1 .ops)) (unlessAbsorbs m g (m .end (x .0) (x .1 .term))),
     end-weight g (x .0) (x .1 .term) (p (λ e. let z : _≡_ {A = ℕ} 0 1 = cc in omega arith)),
   )
   part-weight (goes h) g x p =
-      omega (arith, total-append wt (gather (m .op) (x .1 .ops)) (unlessGlued m g (m .end h (x .1 .term))), end-weight g h (x .1 .term) (p (λ e. let z : _≡_ {A = ℕ} 0 1 = cc in omega arith)))
+      omega (arith, total-append wt (gather (m .op) (x .1 .ops)) (unlessAbsorbs m g (m .end h (x .1 .term))), end-weight g h (x .1 .term) (p (λ e. let z : _≡_ {A = ℕ} 0 1 = cc in omega arith)))
 
   -- P need hold only of the points that are not gone
   pub pass-weight : (c : CfgPoint → ℕ) (T : Table) → ((i : ℕ) → i < length T → ¬ (statusAt c T i ≡ gone) → P (getD T i noPair .1 .term)) → total wt (upTo (partAt c m T) (length T)) ≤ total partWeight T
   unfolding partAt
   pass-weight c T p = omega (
     arith,
-    total-upTo wt partWeight noPair (λ i. 0) T (partAt c m T) (λ i h. omega (arith, part-weight (statusAt c T i) (glueAt c T i) (getD T i noPair) (p i h))),
+    total-upTo wt partWeight noPair (λ i. 0) T (partAt c m T) (λ i h. omega (arith, part-weight (statusAt c T i) (absorbsHere c T i) (getD T i noPair) (p i h))),
   )
 
 -- the words of immediates, of a list and of an instruction

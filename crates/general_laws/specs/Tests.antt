@@ -9,8 +9,8 @@ use Prim.Native.Nat.{ℕ, zero, suc, _+_, _<_}
 use native.Mathlib.Omega.{arith}
 use lib.ListN.{getD, length}
 use borrow.Author.Tests.{not-true}
-use Rattle.laws.specs.Lists.{choose, tabulate, below, every, gather, within, distinct, find}
-use Rattle.laws.specs.Members.{In, here, there, in-nil, in-cases, in-left, in-right, in-map, in-getD, in-gather, in-tabulate, All, all-append, all-in, all-from, NoDup, not-within}
+use Rattle.general_laws.specs.Lists.{choose, tabulate, below, every, gather, within, distinct, find}
+use Rattle.general_laws.specs.Members.{In, here, there, in-nil, in-cases, in-left, in-right, in-map, in-getD, in-gather, in-tabulate, All, all-append, all-in, all-from, NoDup, not-within}
 
 pub both : (a b : Bool) → a && b ≡ true → (a ≡ true) × (b ≡ true)
 both true b e = (refl, e)

@@ -6,9 +6,9 @@
 use mathlib.Core.Path.{_≡_, refl, sym, ap, ap₂, _∙_}
 use mathlib.Core.Bool.{Bool, true}
 use mathlib.Core.List.{List, [], _∷_, _++_, map, append-assoc}
-use Rattle.laws.specs.Every.{every-at, every-parts, every-split, every-true}
-use Rattle.laws.specs.Tests.{both}
-use Rattle.laws.specs.Lists.{every, gather}
+use Rattle.general_laws.specs.Every.{every-at, every-parts, every-split, every-true}
+use Rattle.general_laws.specs.Tests.{both}
+use Rattle.general_laws.specs.Lists.{every, gather}
 
 pub map-append : {A B : Type 0} (f : A → B) (xs ys : List A) → map f (xs ++ ys) ≡ map f xs ++ map f ys
 map-append f [] ys = refl

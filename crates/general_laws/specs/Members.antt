@@ -7,7 +7,7 @@ use Prim.Native.Nat.{ℕ, zero, suc, _+_, _≤_, _<_}
 use native.Mathlib.Decide.{ℕ-discrete}
 use native.Mathlib.Omega.{arith}
 use lib.ListN.{getD, length}
-use Rattle.laws.specs.Lists.{choose, choose-no, choose-yes, gather, member, tabulate, times, within}
+use Rattle.general_laws.specs.Lists.{choose, choose-no, choose-yes, gather, member, tabulate, times, within}
 
 -- an element
 pub data In {A : Type 0} : A → List A → Type 0 where
