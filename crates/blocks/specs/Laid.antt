@@ -15,7 +15,7 @@ use Rattle.func.specs.Tables.{Tables}
 use Rattle.work.specs.Layout.{linesAt, childrenAt, pointsAt, usesAt, usesEnd, statusesAt, absorbsAt, absorbsEnd, workNeed}
 use Rattle.terminators.specs.At.{pointAt}
 use Rattle.terminators.specs.Visited.{Visited, visited-kept}
-use Rattle.blocks.specs.Absorbs.{AbsorbWords, absorbs, absorbWord, stands, statusWord}
+use Rattle.block_absorbs.specs.Absorbs.{AbsorbWords, absorbs, absorbWord, stands, statusWord}
 use Rattle.blocks.specs.Words.{BlockWords, blockWord, layWord}
 
 pub record Laid (w u : List ℕ) (m : ℕ) : Type 0 where
@@ -24,15 +24,15 @@ pub record Laid (w u : List ℕ) (m : ℕ) : Type 0 where
   pub few : m ≤ 512
   pub count : m ≡ length (walkOf (funcOf w))
   pub walked : 0 < m → Visited w u m
-  pub glued : AbsorbWords (funcOf w) m u
+  pub absorbing : AbsorbWords (funcOf w) m u
 
-module _ {w u : List ℕ} {m : ℕ} (k : Visited w u m) (b : BlockWords (funcOf w) u) where
+module _ {w v u : List ℕ} {m : ℕ} (k : Visited w u m) (b : BlockWords (funcOf w) v u) where
   abbrev F : Func
   F = funcOf w
 
-  glued-words : AbsorbWords F m u
+  absorbing-words : AbsorbWords F m u
   unfolding blockWord layWord
-  glued-words = record {
+  absorbing-words = record {
     status = λ i h.
         b .word (statusesAt + i)
         ∙ higher (statusesAt + i) linesAt _ _ (omega arith)
@@ -58,20 +58,7 @@ module _ {w u : List ℕ} {m : ℕ} (k : Visited w u m) (b : BlockWords (funcOf 
 
   pub laid-blocks : Laid w u m
   laid-blocks =
-      record { tables = k .tables; size = k .size; few = k .few; count = k .count; walked = λ h. k; glued = glued-words }
-
-  -- beyond its tables the slice is clear
-  pub blank-after : (x : ℕ) → absorbsEnd ≤ x → getD u x 0 ≡ 0
-  unfolding blockWord layWord
-  blank-after x h =
-      b .word x
-      ∙ higher x linesAt _ _ (omega arith)
-      ∙ higher x childrenAt _ _ (omega arith)
-      ∙ higher x pointsAt _ _ (omega arith)
-      ∙ higher x usesAt _ _ (omega arith)
-      ∙ higher x usesEnd _ _ (omega arith)
-      ∙ higher x absorbsAt _ _ (omega arith)
-      ∙ higher x absorbsEnd _ _ h
+      record { tables = k .tables; size = k .size; few = k .few; count = k .count; walked = λ h. k; absorbing = absorbing-words }
 
 pub laid-imported : {w u : List ℕ} → Tables w → workNeed ≤ length u → funcOf w .regions ≡ [] → Laid w u 0
 laid-imported {w} {u} t z e = record {
@@ -80,7 +67,7 @@ laid-imported {w} {u} t z e = record {
   few = omega arith;
   count = sym (ap length (walk-none (funcOf w) e));
   walked = λ h. absurd (omega arith);
-  glued = record { status = λ i h. absurd (omega arith); absorb = λ i h. absurd (omega arith) };
+  absorbing = record { status = λ i h. absurd (omega arith); absorb = λ i h. absurd (omega arith) };
 }
 
 module _ {w u v : List ℕ} {m : ℕ} (k : Laid w u m) (same : (x : ℕ) → linesAt ≤ x → x < absorbsEnd → getD v x 0 ≡ getD u x 0) (l : length v ≡ length u) where
@@ -91,8 +78,8 @@ module _ {w u v : List ℕ} {m : ℕ} (k : Laid w u m) (same : (x : ℕ) → lin
     few = k .few;
     count = k .count;
     walked = λ h. visited-kept (k .walked h) (λ x a b. same x a (omega arith)) (λ x a b. same x (omega arith) (omega arith)) l;
-    glued = record {
-      status = λ i h. same (statusesAt + i) (omega arith) (omega (arith, k .few)) ∙ k .glued .status i h;
-      absorb = λ i h. same (absorbsAt + i) (omega arith) (omega (arith, k .few)) ∙ k .glued .absorb i h;
+    absorbing = record {
+      status = λ i h. same (statusesAt + i) (omega arith) (omega (arith, k .few)) ∙ k .absorbing .status i h;
+      absorb = λ i h. same (absorbsAt + i) (omega arith) (omega (arith, k .few)) ∙ k .absorbing .absorb i h;
     };
   }

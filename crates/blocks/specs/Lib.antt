@@ -1,5 +1,3 @@
--- Use counts, and the visited points as runs of kept blocks.
-pub mod Uses
-pub mod Absorbs
+-- The words of the work slice where the kept blocks are laid out.
 pub mod Words
 pub mod Laid

@@ -1,14 +1,14 @@
 -- Every word of the work slice where the blocks are laid out. Assumes nothing.
 --     layWord, lay-words       after the walk, the use counts and the pass over positions, above the tables of the control-flow walk
---     blockWord, block-words   all of them, where the slice was clear
+--     blockWord, block-words   all of them, once the walk's own words are cleared
 --     walkable-stands          what the walk asks of a text follows from what the reader promises
 use mathlib.Core.Path.{_≡_, refl, sym, ap, _∙_}
 use mathlib.Core.Bool.{Bool, true, false, cond}
 use mathlib.Core.List.{List, [], _∷_}
-use Prim.Native.Nat.{ℕ, zero, suc, _+_, _-_, _≤_, _<_}
+use Prim.Native.Nat.{ℕ, _+_, _-_, _≤_, _<_}
 use native.Mathlib.Omega.{arith}
 use lib.Dec.{ltb}
-use lib.ListN.{getD, length, replicate}
+use lib.ListN.{getD, length}
 use borrow.Author.Tests.{ltb-true, ltb-false}
 use Rattle.lifting.specs.Ast.{Region, Func}
 use Rattle.lifting.specs.Parts.{hasBody}
@@ -17,15 +17,15 @@ use Rattle.lifting.specs.Absorb.{useCount}
 use Rattle.func.specs.Decode.{funcOf}
 use Rattle.work.specs.Layout.{linesAt, childrenAt, tablesEnd, pointsAt, usesAt, usesEnd, statusesAt, absorbsAt, absorbsEnd}
 use Rattle.work.specs.Aside.{Aside, Cleared}
-use Rattle.walk_roots.specs.Tables.{firstLine}
+use Rattle.walk_roots.specs.Tables.{lineWord}
 use Rattle.walk_points.specs.Numbers.{pointOf}
 use Rattle.walk_points.specs.Walk.{Walkable, walkable-checked}
 use Rattle.walk_points.specs.Words.{walkWord, WalkWords, word-after}
 use Rattle.check_text.specs.Same.{Stands}
 use Rattle.terminators.specs.At.{pointAt}
 use Rattle.terminators.specs.Visited.{Visited, visited-kept}
-use Rattle.blocks.specs.Uses.{Counted}
-use Rattle.blocks.specs.Absorbs.{statusWord, absorbWord, stands, absorbs, AbsorbWords, Beyond}
+use Rattle.block_uses.specs.Uses.{Counted}
+use Rattle.block_absorbs.specs.Absorbs.{statusWord, absorbWord, stands, absorbs, AbsorbWords, Beyond}
 
 -- a position's word, or what was there behind the last position
 abbrev pub positioned : Func → ℕ → ℕ → ℕ → ℕ
@@ -44,7 +44,7 @@ pub record LayWords (F : Func) (w u : List ℕ) : Type 0 where
   pub word : (x : ℕ) → tablesEnd ≤ x → getD u x 0 ≡ layWord F (λ y. getD w y 0) x
 
 module _ {F : Func} {w u v z : List ℕ} {m : ℕ} (walked : WalkWords F w u) (counts : Aside usesAt usesEnd u v) (run : Aside statusesAt absorbsEnd v z) (past : Beyond m v z)
-    (counted : Counted F z) (glued : AbsorbWords F m z) (size : m ≡ length (walkOf F)) (few : m ≤ 512) where
+    (counted : Counted F z) (absorbing : AbsorbWords F m z) (size : m ≡ length (walkOf F)) (few : m ≤ 512) where
   abbrev old : ℕ → ℕ
   old y = getD w y 0
 
@@ -63,13 +63,13 @@ module _ {F : Func} {w u v z : List ℕ} {m : ℕ} (walked : WalkWords F w u) (c
       → getD z x 0 ≡ positioned F (x - statusesAt) (statusWord (stands F (x - statusesAt)) (pointAt F (x - statusesAt))) (old x)
   status-word x a b =
       let e : statusesAt + (x - statusesAt) ≡ x = omega arith in
-      by-position (x - statusesAt) x (old x) _ (λ h. sym (ap (λ (y : ℕ). getD z y 0) e) ∙ glued .status (x - statusesAt) h)
+      by-position (x - statusesAt) x (old x) _ (λ h. sym (ap (λ (y : ℕ). getD z y 0) e) ∙ absorbing .status (x - statusesAt) h)
       (λ h. sym (ap (λ (y : ℕ). getD z y 0) e) ∙ past .status (x - statusesAt) h (omega arith) ∙ ap (λ (y : ℕ). getD v y 0) e ∙ kept x (omega arith))
 
-  glue-word : (x : ℕ) → absorbsAt ≤ x → x < absorbsEnd → getD z x 0 ≡ positioned F (x - absorbsAt) (absorbWord (absorbs F (x - absorbsAt))) (old x)
-  glue-word x a b =
+  absorb-word : (x : ℕ) → absorbsAt ≤ x → x < absorbsEnd → getD z x 0 ≡ positioned F (x - absorbsAt) (absorbWord (absorbs F (x - absorbsAt))) (old x)
+  absorb-word x a b =
       let e : absorbsAt + (x - absorbsAt) ≡ x = omega arith in
-      by-position (x - absorbsAt) x (old x) _ (λ h. sym (ap (λ (y : ℕ). getD z y 0) e) ∙ glued .absorb (x - absorbsAt) h)
+      by-position (x - absorbsAt) x (old x) _ (λ h. sym (ap (λ (y : ℕ). getD z y 0) e) ∙ absorbing .absorb (x - absorbsAt) h)
       (λ h. sym (ap (λ (y : ℕ). getD z y 0) e) ∙ past .absorb (x - absorbsAt) h (omega arith) ∙ ap (λ (y : ℕ). getD v y 0) e ∙ kept x (omega arith))
 
   pub lay-words : LayWords F w z
@@ -77,7 +77,7 @@ module _ {F : Func} {w u v z : List ℕ} {m : ℕ} (walked : WalkWords F w u) (c
   lay-words = record { word = λ x h. low x h (ltb x usesAt) refl }
     where
       end : (x : ℕ) → absorbsAt ≤ x → (b : Bool) → ltb x absorbsEnd ≡ b → getD z x 0 ≡ cond b (positioned F (x - absorbsAt) (absorbWord (absorbs F (x - absorbsAt))) (old x)) (old x)
-      end x h true e = glue-word x h (ltb-true x absorbsEnd e)
+      end x h true e = absorb-word x h (ltb-true x absorbsEnd e)
       end x h false e = let k = ltb-false x absorbsEnd e in run .after x k ∙ kept x (omega arith)
 
       high : (x : ℕ) → statusesAt ≤ x → (b : Bool) → ltb x absorbsAt ≡ b
@@ -104,29 +104,16 @@ module _ {F : Func} {w u v z : List ℕ} {m : ℕ} (walked : WalkWords F w u) (c
       low x h true e = let l = ltb-true x usesAt e in run .before x (omega arith) ∙ counts .before x l ∙ walked .word x h
       low x h false e = mid x (ltb-false x usesAt e) (ltb x usesEnd) refl
 
--- word x of a slice that was clear: the table of ctrl lines, the visited points, the parents, the use counts, the positions
-unfoldable pub blockWord : Func → ℕ → ℕ
-blockWord F x =
-    cond (ltb x linesAt) 0 (cond (ltb x childrenAt) (firstLine (x - linesAt) 0 (F .ctrls)) (cond (ltb x pointsAt) 0 (layWord F (λ y. 0) x)))
+-- word x, where the words were `old`: the table of ctrl lines, the visited points, the parents, the use counts, the positions
+unfoldable pub blockWord : Func → (ℕ → ℕ) → ℕ → ℕ
+blockWord F old x =
+    cond (ltb x linesAt) 0 (cond (ltb x childrenAt) (lineWord (x - linesAt) 0 (F .ctrls)) (cond (ltb x pointsAt) 0 (layWord F old x)))
 
-pub record BlockWords (F : Func) (u : List ℕ) : Type 0 where
-  pub word : (x : ℕ) → getD u x 0 ≡ blockWord F x
+-- from the words w to the words u
+pub record BlockWords (F : Func) (w u : List ℕ) : Type 0 where
+  pub word : (x : ℕ) → getD u x 0 ≡ blockWord F (λ y. getD w y 0) x
 
--- zeros, word by word
-pub zero-word : {w : List ℕ} → w ≡ replicate (length w) 0 → (x : ℕ) → getD w x 0 ≡ 0
-zero-word {w} e x = ap (λ (l : List ℕ). getD l x 0) e ∙ go (length w) x
-  where
-    go : (n x : ℕ) → _≡_ {A = ℕ} (getD (replicate n 0) x 0) 0
-    go zero x = refl
-    go (suc n) zero = refl
-    go (suc n) (suc x) = go n x
-
--- what a word is made of, where the words before are the same
-lay-same : (F : Func) (f g : ℕ → ℕ) → ((y : ℕ) → f y ≡ g y) → (x : ℕ) → layWord F f x ≡ layWord F g x
-unfolding layWord walkWord
-lay-same F f g e x = rw (e x)
-
-module _ {func w u v z : List ℕ} {m : ℕ} (clear : w ≡ replicate (length w) 0) (k : Visited func u m) (laid : LayWords (funcOf func) w u)
+module _ {func w u v z : List ℕ} {m : ℕ} (k : Visited func u m) (laid : LayWords (funcOf func) w u)
     (low : Cleared 0 linesAt u v) (mid : Cleared childrenAt pointsAt v z) where
   same : (x : ℕ) → linesAt ≤ x → x < childrenAt → getD z x 0 ≡ getD u x 0
   same x a b = mid .aside .before x b ∙ low .aside .after x a
@@ -137,18 +124,18 @@ module _ {func w u v z : List ℕ} {m : ℕ} (clear : w ≡ replicate (length w)
   pub visited-still : length z ≡ length u → Visited func z m
   visited-still l = visited-kept k same (λ x a h. same-high x a) l
 
-  pub block-words : BlockWords (funcOf func) z
+  pub block-words : BlockWords (funcOf func) w z
   unfolding blockWord
   block-words = record { word = λ x. first x (ltb x linesAt) refl }
     where
-      last : (x : ℕ) → childrenAt ≤ x → (b : Bool) → ltb x pointsAt ≡ b → getD z x 0 ≡ cond b 0 (layWord (funcOf func) (λ y. 0) x)
+      last : (x : ℕ) → childrenAt ≤ x → (b : Bool) → ltb x pointsAt ≡ b → getD z x 0 ≡ cond b 0 (layWord (funcOf func) (λ y. getD w y 0) x)
       last x h true e = mid .blank x h (ltb-true x pointsAt e)
       last x h false e =
           let a = ltb-false x pointsAt e in
-          same-high x a ∙ laid .word x (omega arith) ∙ lay-same (funcOf func) (λ y. getD w y 0) (λ y. 0) (zero-word clear) x
+          same-high x a ∙ laid .word x (omega arith)
 
       second : (x : ℕ) → linesAt ≤ x → (b : Bool) → ltb x childrenAt ≡ b
-          → getD z x 0 ≡ cond b (firstLine (x - linesAt) 0 (funcOf func .ctrls)) (cond (ltb x pointsAt) 0 (layWord (funcOf func) (λ y. 0) x))
+          → getD z x 0 ≡ cond b (lineWord (x - linesAt) 0 (funcOf func .ctrls)) (cond (ltb x pointsAt) 0 (layWord (funcOf func) (λ y. getD w y 0) x))
       second x h true e =
           let b = ltb-true x childrenAt e in
           let y : linesAt + (x - linesAt) ≡ x = omega arith in
@@ -156,7 +143,7 @@ module _ {func w u v z : List ℕ} {m : ℕ} (clear : w ≡ replicate (length w)
       second x h false e = last x (ltb-false x childrenAt e) (ltb x pointsAt) refl
 
       first : (x : ℕ) (b : Bool) → ltb x linesAt ≡ b
-          → getD z x 0 ≡ cond b 0 (cond (ltb x childrenAt) (firstLine (x - linesAt) 0 (funcOf func .ctrls)) (cond (ltb x pointsAt) 0 (layWord (funcOf func) (λ y. 0) x)))
+          → getD z x 0 ≡ cond b 0 (cond (ltb x childrenAt) (lineWord (x - linesAt) 0 (funcOf func .ctrls)) (cond (ltb x pointsAt) 0 (layWord (funcOf func) (λ y. getD w y 0) x)))
       first x true e = mid .aside .before x (omega (arith, ltb-true x linesAt e)) ∙ low .blank x (omega arith) (ltb-true x linesAt e)
       first x false e = second x (ltb-false x linesAt e) (ltb x childrenAt) refl
 

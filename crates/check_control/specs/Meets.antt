@@ -18,7 +18,7 @@ use Rattle.lifting.specs.Limits.{maxOpcode}
 use Rattle.lifting.specs.References.{named, instFits, controlHolds, referencesHold}
 use Rattle.func.specs.Layout.{regions}
 use Rattle.func.specs.Decode.{funcOf}
-use Rattle.func.specs.Tables.{Tables, ctrlLine, region-total}
+use Rattle.func.specs.Tables.{Tables, ctrlLineOf, region-total}
 use Rattle.walk_roots.specs.Tables.{RegionsNamed, noLine}
 
 pub refer-below : (F : Func) → referencesHold F ≡ true → every (λ r. ltb r (length (F .regions))) (childList F ++ ctrlRegions F) ≡ true
@@ -49,23 +49,23 @@ module _ {w : List ℕ} (t : Tables w) (e : every (λ r. ltb r (length (funcOf w
       (every-parts below childrenOf (F .nodes) (every-split below (childList F) (ctrlRegions F) e .0)) n (block []) h
 
   -- all that line c names
-  line : (c : ℕ) → c < length (F .ctrls) → every below (ctrlLine F c .0 ∷ (ctrlLine F c .1 .to ++ keys (ctrlLine F c .1 .vals))) ≡ true
+  line : (c : ℕ) → c < length (F .ctrls) → every below (ctrlLineOf F c .0 ∷ (ctrlLineOf F c .1 .to ++ keys (ctrlLineOf F c .1 .vals))) ≡ true
   unfolding ctrlRegions
   line c h =
       every-at (λ (x : ℕ × ControlInst). every below (x .0 ∷ (x .1 .to ++ keys (x .1 .vals)))) (F .ctrls)
       (every-parts below (λ (x : ℕ × ControlInst). x .0 ∷ (x .1 .to ++ keys (x .1 .vals))) (F .ctrls) (every-split below (childList F) (ctrlRegions F) e .1)) c noLine h
 
-  parts : (c : ℕ) → c < length (F .ctrls) → (below (ctrlLine F c .0) ≡ true) × (every below (ctrlLine F c .1 .to) ≡ true)
+  parts : (c : ℕ) → c < length (F .ctrls) → (below (ctrlLineOf F c .0) ≡ true) × (every below (ctrlLineOf F c .1 .to) ≡ true)
   parts c h =
-      let p = both (below (ctrlLine F c .0)) (every below (ctrlLine F c .1 .to ++ keys (ctrlLine F c .1 .vals))) (line c h) in
-      (p .0, every-split below (ctrlLine F c .1 .to) (keys (ctrlLine F c .1 .vals)) (p .1) .0)
+      let p = both (below (ctrlLineOf F c .0)) (every below (ctrlLineOf F c .1 .to ++ keys (ctrlLineOf F c .1 .vals))) (line c h) in
+      (p .0, every-split below (ctrlLineOf F c .1 .to) (keys (ctrlLineOf F c .1 .vals)) (p .1) .0)
 
   pub named-from : RegionsNamed F
   named-from = record {
     few = omega (arith, region-total t, t .counts regions (lit< tt));
     child = λ n i h l. ltb-true (getD (childrenOf (nodeOf F n)) i 0) (length (F .regions)) (every-at below (childrenOf (nodeOf F n)) (children n h) i 0 l);
-    line = λ c h. ltb-true (ctrlLine F c .0) (length (F .regions)) (parts c h .0);
-    target = λ c i h l. ltb-true (getD (ctrlLine F c .1 .to) i 0) (length (F .regions)) (every-at below (ctrlLine F c .1 .to) (parts c h .1) i 0 l);
+    line = λ c h. ltb-true (ctrlLineOf F c .0) (length (F .regions)) (parts c h .0);
+    target = λ c i h l. ltb-true (getD (ctrlLineOf F c .1 .to) i 0) (length (F .regions)) (every-at below (ctrlLineOf F c .1 .to) (parts c h .1) i 0 l);
   }
 
 -- in one step

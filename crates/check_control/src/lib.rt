@@ -24,16 +24,16 @@ ghost use Rattle.general_laws.specs.Lists.{every, within, distinct, keys};
 ghost use Rattle.lifting.specs.Parts.{childList};
 ghost use Rattle.lifting.specs.Control.{isRoot, ctrlFits, controlFits};
 ghost use Rattle.func.specs.Decode.{funcOf};
-ghost use Rattle.func.specs.Tables.{Tables, ctrlLine};
+ghost use Rattle.func.specs.Tables.{Tables, ctrlLineOf};
 ghost use Rattle.work.specs.Layout.{childrenAt, tablesEnd, workNeed};
 ghost use Rattle.work.specs.Aside.{Aside};
-ghost use Rattle.walk_roots.specs.Tables.{RegionsNamed, Indexed, Marked};
-ghost use Rattle.walk_roots.specs.Visit.{listed, RootsLow};
+ghost use Rattle.walk_roots.specs.Tables.{RegionsNamed, Indexed, RegionsMarked};
+ghost use Rattle.walk_roots.specs.Visit.{lastRoots, RootsLow};
 ghost use Rattle.check_control.specs.Loops.{targetFits, lineFits, kindTest};
 
 // Region r is no child.
 fn is_root(func: &[u32], work: &[u32], r: usize) -> bool
-    requires { ⌜ Marked childrenAt (childList (funcOf (now func))) (now work) ⌝ }
+    requires { ⌜ RegionsMarked childrenAt (childList (funcOf (now func))) (now work) ⌝ }
     requires { ⌜ (r < 128) × (tablesEnd ≤ length (now work)) ⌝ }
     ensures { λ x. ⌜ x ≡ isRoot (funcOf (now (func .entry))) r ⌝ }
 {
@@ -53,7 +53,7 @@ fn has_line(func: &[u32], work: &[u32], r: usize) -> bool
 fn is_target(func: &[u32], c: usize, r: usize) -> bool
     requires { ⌜ Tables (now func) ⌝ }
     requires { ⌜ c < length (funcOf (now func) .ctrls) ⌝ }
-    ensures { λ x. ⌜ x ≡ within r (ctrlLine (funcOf (now (func .entry))) c .1 .to) ⌝ }
+    ensures { λ x. ⌜ x ≡ within r (ctrlLineOf (funcOf (now (func .entry))) c .1 .to) ⌝ }
 {
     let k = target_count(func, c);
     let mut i = 0;
@@ -68,7 +68,7 @@ fn is_target(func: &[u32], c: usize, r: usize) -> bool
 
 // Region r can be a target.
 fn target_fits(func: &[u32], work: &[u32], r: usize) -> bool
-    requires { ⌜ Marked childrenAt (childList (funcOf (now func))) (now work) ⌝ }
+    requires { ⌜ RegionsMarked childrenAt (childList (funcOf (now func))) (now work) ⌝ }
     requires { ⌜ (r < 128) × (tablesEnd ≤ length (now work)) ⌝ }
     ensures { λ x. ⌜ x ≡ targetFits (funcOf (now (func .entry))) r ⌝ }
 {
@@ -83,8 +83,8 @@ fn targets_fit(func: &[u32], work: &[u32], c: usize) -> bool
     requires { ⌜ Tables (now func) ⌝ }
     requires { ⌜ c < length (funcOf (now func) .ctrls) ⌝ }
     requires { ⌜ RegionsNamed (funcOf (now func)) ⌝ }
-    requires { ⌜ Marked childrenAt (childList (funcOf (now func))) (now work) × (tablesEnd ≤ length (now work)) ⌝ }
-    ensures { λ x. ⌜ x ≡ every (targetFits (funcOf (now (func .entry)))) (ctrlLine (funcOf (now (func .entry))) c .1 .to) ⌝ }
+    requires { ⌜ RegionsMarked childrenAt (childList (funcOf (now func))) (now work) × (tablesEnd ≤ length (now work)) ⌝ }
+    ensures { λ x. ⌜ x ≡ every (targetFits (funcOf (now (func .entry)))) (ctrlLineOf (funcOf (now (func .entry))) c .1 .to) ⌝ }
 {
     let k = target_count(func, c);
     let mut i = 0;
@@ -102,7 +102,7 @@ fn targets_fit(func: &[u32], work: &[u32], c: usize) -> bool
 fn entry_after(func: &[u32], c: usize, s: usize, r: usize) -> bool
     requires { ⌜ Tables (now func) ⌝ }
     requires { ⌜ c < length (funcOf (now func) .ctrls) ⌝ }
-    ensures { λ x. ⌜ x ≡ within r (keys (drop s (ctrlLine (funcOf (now (func .entry))) c .1 .vals))) ⌝ }
+    ensures { λ x. ⌜ x ≡ within r (keys (drop s (ctrlLineOf (funcOf (now (func .entry))) c .1 .vals))) ⌝ }
 {
     let k = entry_count(func, c);
     let mut i = s;
@@ -119,7 +119,7 @@ fn entry_after(func: &[u32], c: usize, s: usize, r: usize) -> bool
 fn entries_distinct(func: &[u32], c: usize) -> bool
     requires { ⌜ Tables (now func) ⌝ }
     requires { ⌜ c < length (funcOf (now func) .ctrls) ⌝ }
-    ensures { λ x. ⌜ x ≡ distinct (keys (ctrlLine (funcOf (now (func .entry))) c .1 .vals)) ⌝ }
+    ensures { λ x. ⌜ x ≡ distinct (keys (ctrlLineOf (funcOf (now (func .entry))) c .1 .vals)) ⌝ }
 {
     let k = entry_count(func, c);
     let mut i = 0;
@@ -137,7 +137,7 @@ fn entries_distinct(func: &[u32], c: usize) -> bool
 fn entries_fit(func: &[u32], c: usize) -> bool
     requires { ⌜ Tables (now func) ⌝ }
     requires { ⌜ c < length (funcOf (now func) .ctrls) ⌝ }
-    ensures { λ x. ⌜ x ≡ every (λ r. within r (ctrlLine (funcOf (now (func .entry))) c .1 .to)) (keys (ctrlLine (funcOf (now (func .entry))) c .1 .vals)) ⌝ }
+    ensures { λ x. ⌜ x ≡ every (λ r. within r (ctrlLineOf (funcOf (now (func .entry))) c .1 .to)) (keys (ctrlLineOf (funcOf (now (func .entry))) c .1 .vals)) ⌝ }
 {
     let k = entry_count(func, c);
     let mut i = 0;
@@ -170,8 +170,8 @@ fn ctrl_fits(func: &[u32], work: &[u32], c: usize) -> bool
     requires { ⌜ Tables (now func) ⌝ }
     requires { ⌜ c < length (funcOf (now func) .ctrls) ⌝ }
     requires { ⌜ RegionsNamed (funcOf (now func)) ⌝ }
-    requires { ⌜ Marked childrenAt (childList (funcOf (now func))) (now work) × (tablesEnd ≤ length (now work)) ⌝ }
-    ensures { λ x. ⌜ x ≡ ctrlFits (funcOf (now (func .entry))) (ctrlLine (funcOf (now (func .entry))) c .1) ⌝ }
+    requires { ⌜ RegionsMarked childrenAt (childList (funcOf (now func))) (now work) × (tablesEnd ≤ length (now work)) ⌝ }
+    ensures { λ x. ⌜ x ≡ ctrlFits (funcOf (now (func .entry))) (ctrlLineOf (funcOf (now (func .entry))) c .1) ⌝ }
 {
     if !targets_fit(func, work, c) {
         return false;
@@ -194,8 +194,8 @@ fn line_fits(func: &[u32], work: &[u32], c: usize) -> bool
     requires { ⌜ Tables (now func) ⌝ }
     requires { ⌜ c < length (funcOf (now func) .ctrls) ⌝ }
     requires { ⌜ RegionsNamed (funcOf (now func)) ⌝ }
-    requires { ⌜ Marked childrenAt (childList (funcOf (now func))) (now work) × (tablesEnd ≤ length (now work)) ⌝ }
-    ensures { λ x. ⌜ x ≡ lineFits (funcOf (now (func .entry))) (ctrlLine (funcOf (now (func .entry))) c) ⌝ }
+    requires { ⌜ RegionsMarked childrenAt (childList (funcOf (now func))) (now work) × (tablesEnd ≤ length (now work)) ⌝ }
+    ensures { λ x. ⌜ x ≡ lineFits (funcOf (now (func .entry))) (ctrlLineOf (funcOf (now (func .entry))) c) ⌝ }
 {
     let r = ctrl_region(func, c);
     if !is_root(func, work, r) {
@@ -208,7 +208,7 @@ fn line_fits(func: &[u32], work: &[u32], c: usize) -> bool
 fn lines_fit(func: &[u32], work: &[u32]) -> bool
     requires { ⌜ Tables (now func) ⌝ }
     requires { ⌜ RegionsNamed (funcOf (now func)) ⌝ }
-    requires { ⌜ Marked childrenAt (childList (funcOf (now func))) (now work) × (tablesEnd ≤ length (now work)) ⌝ }
+    requires { ⌜ RegionsMarked childrenAt (childList (funcOf (now func))) (now work) × (tablesEnd ≤ length (now work)) ⌝ }
     ensures { λ x. ⌜ x ≡ every (lineFits (funcOf (now (func .entry)))) (funcOf (now (func .entry)) .ctrls) ⌝ }
 {
     let k = ctrl_total(func);
@@ -227,7 +227,7 @@ fn have_ctrls(func: &[u32], work: &[u32], n: usize) -> bool
     requires { ⌜ Indexed (funcOf (now func)) (now work) ⌝ }
     requires { ⌜ RootsLow (funcOf (now func)) (now work) n × (length (funcOf (now func) .regions) ≤ 128) ⌝ }
     requires { ⌜ (n ≤ 128) × (tablesEnd ≤ length (now work)) ⌝ }
-    ensures { λ x. ⌜ x ≡ every (λ r. within r (keys (funcOf (now (func .entry)) .ctrls))) (listed (now (work .entry)) n) ⌝ }
+    ensures { λ x. ⌜ x ≡ every (λ r. within r (keys (funcOf (now (func .entry)) .ctrls))) (lastRoots (now (work .entry)) n) ⌝ }
 {
     let a = ROOTS_END - n;
     let mut i = 0;

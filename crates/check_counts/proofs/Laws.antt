@@ -10,7 +10,7 @@ use Rattle.general_laws.specs.Lists.{tabulate, below, every}
 use Rattle.func.specs.Layout.{params, nodeRefs, childRefs, regions, nodes, ctrls}
 use Rattle.func.specs.Store.{count}
 use Rattle.func.specs.Tables.{Within, word}
-use Rattle.check_counts.specs.Test.{insIn, resultsIn, valuesIn, childrenIn, outsIn, childIn, nodesIn, nodeIn, endsAt, endsTest, outsTest, caseTest, bodyTest, casesTest, kindTest, nodeTest, nodesTest, resultsTest, funcTest, countsTest, CountsSafe}
+use Rattle.check_counts.specs.Test.{insIn, resultsIn, valueCountIn, childCountIn, outsIn, childIn, nodeCountIn, nodeIn, endsAt, endsTest, outsTest, caseTest, bodyTest, casesTest, nodeKindTest, nodeTest, nodesTest, resultsTest, funcTest, countsTest, CountsSafe}
 
 -- rows that may be read: a node, its child i, and the region that this is
 module _ {w : List ℕ} (s : CountsSafe w) where
@@ -20,7 +20,7 @@ module _ {w : List ℕ} (s : CountsSafe w) where
   pub node-in : {n : ℕ} → n < count nodes w → Within nodes w n
   node-in h = record { size = s .size; pool = lit< tt; fits = s .node-room; below = h }
 
-  module _ {n i : ℕ} (h : n < count nodes w) (l : i < childrenIn w n) where
+  module _ {n i : ℕ} (h : n < count nodes w) (l : i < childCountIn w n) where
     child-below : word nodes w n 5 / 4096 + i < count childRefs w
     child-below = omega (arith, s .child-runs n h)
 
@@ -30,7 +30,7 @@ module _ {w : List ℕ} (s : CountsSafe w) where
     pub case-in : {c : ℕ} → c ≡ childIn w n i → Within regions w c
     case-in e = region-in (omega (arith, s .child-low (word nodes w n 5 / 4096 + i) child-below))
 
-  module _ {r i : ℕ} (h : r < count regions w) (l : i < nodesIn w r) where
+  module _ {r i : ℕ} (h : r < count regions w) (l : i < nodeCountIn w r) where
     ref-below : word regions w r 1 / 4096 + i < count nodeRefs w
     ref-below = omega (arith, s .region-runs r h)
 
@@ -41,13 +41,13 @@ module _ {w : List ℕ} (s : CountsSafe w) where
     last-in e = node-in (omega (arith, s .node-low (word regions w r 1 / 4096 + i) ref-below))
 
 -- the last of region r's m nodes is an exit: its kind's number is 4
-module _ (w : List ℕ) (r : ℕ) {m : ℕ} (e : m ≡ nodesIn w r) where
+module _ (w : List ℕ) (r : ℕ) {m : ℕ} (e : m ≡ nodeCountIn w r) where
   pub ends-none : m ≡ 0 → false ≡ endsTest w r
   ends-none z = ap (endsAt w r) (sym z ∙ e)
 
   pub ends-last : {n k i : ℕ} → (m ≡ 0 → ⊥) → i ≡ m - 1 → n ≡ nodeIn w r i → k ≡ word nodes w n 0 → eqb k 4 ≡ endsTest w r
   ends-last {n} {k} {i} z f g q =
-      let next : suc i ≡ nodesIn w r = omega arith in
+      let next : suc i ≡ nodeCountIn w r = omega arith in
       ap (λ (x : ℕ). eqb x 4) (q ∙ ap (λ (x : ℕ). word nodes w x 0) g) ∙ ap (endsAt w r) next
 
 -- two numbers that are compared before the rest
@@ -81,10 +81,10 @@ module _ (w : List ℕ) (n : ℕ) {c x y : ℕ} (e : x ≡ c) (f : y ≡ insIn w
     pub case-ends : {b : Bool} → (r ≡ o → ⊥) → r ≡ 0 → b ≡ endsTest w x → b ≡ caseTest w n c
     case-ends z u t = agree ins-is refl q (agree results-is refl u (t ∙ ap (endsTest w) e) ∙ others z)
 
-  pub body-stop : {v : ℕ} → v ≡ valuesIn w n → (v ≡ y + 1 → ⊥) → false ≡ bodyTest w n c
+  pub body-stop : {v : ℕ} → v ≡ valueCountIn w n → (v ≡ y + 1 → ⊥) → false ≡ bodyTest w n c
   body-stop g = differ (eqb (resultsIn w c) (insIn w c)) g (ap (λ (z : ℕ). z + 1) ins-is)
 
-  pub body-rest : {v r : ℕ} → v ≡ valuesIn w n → v ≡ y + 1 → r ≡ resultsIn w x → eqb r y ≡ bodyTest w n c
+  pub body-rest : {v r : ℕ} → v ≡ valueCountIn w n → v ≡ y + 1 → r ≡ resultsIn w x → eqb r y ≡ bodyTest w n c
   body-rest g q p = agree g (ap (λ (z : ℕ). z + 1) ins-is) q (λ k. eqb ((p ∙ ap (resultsIn w) e) k) (ins-is k))
 
 -- a loop over the numbers below m, at number i: what is left to ask
@@ -114,7 +114,7 @@ module _ (p : ℕ → Bool) (m : ℕ) where
 abbrev pub caseOf : List ℕ → ℕ → ℕ → Bool
 caseOf w n i = caseTest w n (childIn w n i)
 
-pub cases-first : (w : List ℕ) (n m : ℕ) → m ≡ childrenIn w n → casesTest w n ≡ left (caseOf w n) m 0
+pub cases-first : (w : List ℕ) (n m : ℕ) → m ≡ childCountIn w n → casesTest w n ≡ left (caseOf w n) m 0
 unfolding casesTest
 cases-first w n m e = ap (λ (z : ℕ). every (caseOf w n) (below z)) (sym e) ∙ left-first (caseOf w n) m
 
@@ -124,11 +124,11 @@ nodes-first w m e = ap (λ (z : ℕ). every (nodeTest w) (below z)) (sym e) ∙ 
 
 -- node n, whose kind's number is k
 module _ (w : List ℕ) (n k : ℕ) (e : k ≡ word nodes w n 0) where
-  pub node-as : {m : ℕ} {b : Bool} → k ≡ m → b ≡ kindTest w n m → b ≡ nodeTest w n
-  node-as q p = p ∙ ap (kindTest w n) (sym q ∙ e)
+  pub node-as : {m : ℕ} {b : Bool} → k ≡ m → b ≡ nodeKindTest w n m → b ≡ nodeTest w n
+  node-as q p = p ∙ ap (nodeKindTest w n) (sym q ∙ e)
 
   pub node-rest : (k ≡ 3 → ⊥) → (k ≡ 1 → ⊥) → (k ≡ 2 → ⊥) → true ≡ nodeTest w n
-  node-rest a b c = sym (rw (ne-eqb k 3 a, ne-eqb k 1 b, ne-eqb k 2 c) refl) ∙ ap (kindTest w n) e
+  node-rest a b c = sym (rw (ne-eqb k 3 a, ne-eqb k 1 b, ne-eqb k 2 c) refl) ∙ ap (nodeKindTest w n) e
 
 pub no-case : {a x : ℕ} (t : Bool) → x ≡ a → x ≡ 0 → false ≡ (ltb 0 a && t)
 no-case {a} t e z = ap (λ (b : Bool). b && t) (sym (le-ltb 0 a (omega arith)))

@@ -21,15 +21,15 @@ use Rattle.lifting.specs.Tree.{standsOnce, aroundItself, rootsHaveWaysOut, isTr
 use Rattle.lifting.specs.Counts.{isExit, endsInExit, outsFit, nodeFits, edgesFit, bodyOuts, bodyFits, countsAgree}
 use Rattle.func.specs.Layout.{params, decls, values, nodeRefs, childRefs, regions, nodes, ctrls, entryRoom}
 use Rattle.func.specs.Store.{count, view}
-use Rattle.func.specs.Keep.{single, nodeNumber}
-use Rattle.func.specs.Decode.{numberOf}
+use Rattle.func.specs.Keep.{oneWord, nodeNumber}
+use Rattle.func.specs.Decode.{decodeNumber}
 use Rattle.func.specs.Whole.{collections, sizes}
 use Rattle.func.specs.Tables.{Listed, word, list-count, item-is}
-use Rattle.func.specs.Stored.{Stored, region-nodes, ins-count, results-count, node-kind, values-count, node-children, outs-count, unsingle}
+use Rattle.func.specs.Stored.{Stored, stored-nodes, ins-count, results-count, stored-kind, values-count, stored-children, outs-count, unsingle}
 use Rattle.general_laws.specs.Tests.{every-all, both}
-use Rattle.func_fits.specs.Fewer.{fewer-below, fits}
+use Rattle.general_laws.specs.Fewer.{fewer-below, fits}
 use Rattle.check_counts.specs.Numbered.{every-numbered}
-use Rattle.check_counts.specs.Test.{insIn, resultsIn, valuesIn, childrenIn, outsIn, childIn, nodeIn, endsAt, endsTest, caseTest, bodyTest, casesTest, kindTest, nodeTest, nodesTest, resultsTest, funcTest, countsTest, CountsSafe}
+use Rattle.check_counts.specs.Test.{insIn, resultsIn, valueCountIn, childCountIn, outsIn, childIn, nodeIn, endsAt, endsTest, caseTest, bodyTest, casesTest, nodeKindTest, nodeTest, nodesTest, resultsTest, funcTest, countsTest, CountsSafe}
 
 -- What the earlier refusals say.
 record Few (F : Func) : Type 0 where
@@ -127,7 +127,7 @@ module _ (F : Func) (w : List ℕ) (s : Stored F w) (l : withinLimits F ≡ true
   decl-room = omega (arith, s .counts decls (lit< tt), limits F l .decls)
 
   -- a pool of references, of which there are few enough
-  module _ (k : ℕ) (xs : List ℕ) (b : k < 9) (z : getD (sizes F) k 0 ≡ length xs) (v : getD (collections F) k [] ≡ map single xs) (few : length xs ≤ entryRoom k) where
+  module _ (k : ℕ) (xs : List ℕ) (b : k < 9) (z : getD (sizes F) k 0 ≡ length xs) (v : getD (collections F) k [] ≡ map oneWord xs) (few : length xs ≤ entryRoom k) where
     ref-count : count k w ≡ length xs
     ref-count = omega (arith, s .counts k (omega arith), few)
 
@@ -136,8 +136,8 @@ module _ (F : Func) (w : List ℕ) (s : Stored F w) (l : withinLimits F ≡ true
 
     ref-at : (j : ℕ) → word k w j 0 ≡ getD xs j 0
     ref-at j =
-        sym (List·getD-map numberOf (view k w) j [])
-        ∙ ap (λ (x : List (List ℕ)). getD (map numberOf x) j 0) (s .views k b (omega arith) ∙ v)
+        sym (List·getD-map decodeNumber (view k w) j [])
+        ∙ ap (λ (x : List (List ℕ)). getD (map decodeNumber x) j 0) (s .views k b (omega arith) ∙ v)
         ∙ ap (λ (x : List ℕ). getD x j 0) (unsingle xs)
 
     -- each names one of so many
@@ -158,11 +158,11 @@ module _ (F : Func) (w : List ℕ) (s : Stored F w) (l : withinLimits F ≡ true
   listed-room : count nodeRefs w ≤ entryRoom nodeRefs
   listed-room = ref-room nodeRefs (nodeList F) (lit< tt) refl refl nodes-few
 
-  nodes-of : (r : ℕ) → r < length (F .regions) → Listed nodeRefs single (regionOf F r .nodes) w (word regions w r 1)
-  nodes-of r m = region-nodes s region-room r m listed-room
+  nodes-of : (r : ℕ) → r < length (F .regions) → Listed nodeRefs oneWord (regionOf F r .nodes) w (word regions w r 1)
+  nodes-of r m = stored-nodes s region-room r m listed-room
 
-  kids : (n : ℕ) → n < length (F .nodes) → Listed childRefs single (childrenOf (nodeOf F n)) w (word nodes w n 5)
-  kids n m = node-children s node-room n m child-room
+  kids : (n : ℕ) → n < length (F .nodes) → Listed childRefs oneWord (childrenOf (nodeOf F n)) w (word nodes w n 5)
+  kids n m = stored-children s node-room n m child-room
 
   pub counts-safe : CountsSafe w
   counts-safe = record {
@@ -178,8 +178,8 @@ module _ (F : Func) (w : List ℕ) (s : Stored F w) (l : withinLimits F ≡ true
     node-low = λ i m. omega (arith, node-count, ref-low nodeRefs (nodeList F) (lit< tt) refl refl nodes-few (length (F .nodes)) (references F h .1) i m);
   }
     where
-      body : (n : ℕ) → n < length (F .nodes) → word nodes w n 0 ≡ 3 → 0 < childrenIn w n
-      body n m e = omega (arith, list-count (kids n m), loop-body (nodeOf F n) (sym (node-kind s node-room n m) ∙ e))
+      body : (n : ℕ) → n < length (F .nodes) → word nodes w n 0 ≡ 3 → 0 < childCountIn w n
+      body n m e = omega (arith, list-count (kids n m), loop-body (nodeOf F n) (sym (stored-kind s node-room n m) ∙ e))
 
   -- a region's counts
   ins-are : (c : ℕ) → c < length (F .regions) → insIn w c ≡ length (regionOf F c .ins)
@@ -209,20 +209,20 @@ module _ (F : Func) (w : List ℕ) (s : Stored F w) (l : withinLimits F ≡ true
       by-length (suc k) e =
           let here : nodeIn w c k ≡ getD ns k 0 = ap (λ (z : List ℕ). getD z 0 0) (item-is (nodes-of c m) k (omega arith) 0 {at = word regions w c 1 / 4096 + k} refl) in
           let below : getD ns k 0 < length (F .nodes) = ltb-true _ _ (every-at (λ x. ltb x (length (F .nodes))) ns low k 0 (omega arith)) in
-          ap (λ (x : ℕ). eqb (word nodes w x 0) 4) here ∙ ap (λ (x : ℕ). eqb x 4) (node-kind s node-room (getD ns k 0) below) ∙ exit-number (nodeOf F (getD ns k 0)) ∙ ends-some F k ns e
+          ap (λ (x : ℕ). eqb (word nodes w x 0) 4) here ∙ ap (λ (x : ℕ). eqb x 4) (stored-kind s node-room (getD ns k 0) below) ∙ exit-number (nodeOf F (getD ns k 0)) ∙ ends-some F k ns e
 
   -- what the row of node n says, where the node is g
   record Row (n : ℕ) (g : Node) : Type 0 where
     kind : word nodes w n 0 ≡ nodeNumber g
-    vals : valuesIn w n ≡ length (nodeValues g)
-    kids : Listed childRefs single (childrenOf g) w (word nodes w n 5)
+    vals : valueCountIn w n ≡ length (nodeValues g)
+    kids : Listed childRefs oneWord (childrenOf g) w (word nodes w n 5)
     outs : outsIn w n ≡ length (outsOf g)
     low : every (λ x. ltb x (length (F .regions))) (childrenOf g) ≡ true
 
   row : (n : ℕ) → n < length (F .nodes) → Row n (nodeOf F n)
   unfolding childList
   row n m = record {
-    kind = node-kind s node-room n m;
+    kind = stored-kind s node-room n m;
     vals = values-count s node-room n m value-room;
     kids = kids n m;
     outs = outs-count s node-room n m decl-room;
@@ -248,18 +248,18 @@ module _ (F : Func) (w : List ℕ) (s : Stored F w) (l : withinLimits F ≡ true
         case c m = λ k. eqb (ins-are c m k) 0 && (eqb (results-are c m k) (r .outs k) || (eqb (results-are c m k) 0 && ends-are c m k))
 
   node-is : (n : ℕ) (g : Node) → Row n g → nodeTest w n ≡ nodeFits F g
-  node-is n (block is) r = ap (kindTest w n) (r .kind)
+  node-is n (block is) r = ap (nodeKindTest w n) (r .kind)
   node-is n (select boolCond v cs ds u) r =
-      ap (kindTest w n) (r .kind) ∙ (λ k. eqb (list-count (r .kids) k) 2 && cases-are r k) ∙ and-comm (eqb (length cs) 2) _
+      ap (nodeKindTest w n) (r .kind) ∙ (λ k. eqb (list-count (r .kids) k) 2 && cases-are r k) ∙ and-comm (eqb (length cs) 2) _
   node-is n (select (spvInst i) v cs ds u) r =
-      ap (kindTest w n) (r .kind) ∙ (λ k. ltb 0 (list-count (r .kids) k) && cases-are r k) ∙ and-comm (ltb 0 (length cs)) _
+      ap (nodeKindTest w n) (r .kind) ∙ (λ k. ltb 0 (list-count (r .kids) k) && cases-are r k) ∙ and-comm (ltb 0 (length cs)) _
   node-is n (loop b c vs u) r =
       let m : b < length (F .regions) = child-low r 0 (omega arith) in
-      ap (kindTest w n) (r .kind)
+      ap (nodeKindTest w n) (r .kind)
       ∙ ap (bodyTest w n) (child-is r 0 0 (omega arith) refl)
       ∙ (λ k. eqb (r .vals k) (ins-are b m k + 1) && eqb (results-are b m k) (ins-are b m k))
       ∙ ap (λ (x : Bool). x && eqb (length (regionOf F b .outs)) (length (regionOf F b .ins))) (eqb-more (length vs) (length (regionOf F b .ins)))
-  node-is n (exit i vs) r = ap (kindTest w n) (r .kind)
+  node-is n (exit i vs) r = ap (nodeKindTest w n) (r .kind)
 
   nodes-are : nodesTest w ≡ every (nodeFits F) (F .nodes)
   unfolding nodesTest

@@ -20,11 +20,11 @@ insIn w r = word regions w r 0 % 4096
 abbrev pub resultsIn : List ℕ → ℕ → ℕ
 resultsIn w r = word regions w r 2 % 4096
 
-abbrev pub valuesIn : List ℕ → ℕ → ℕ
-valuesIn w n = word nodes w n 3 % 4096
+abbrev pub valueCountIn : List ℕ → ℕ → ℕ
+valueCountIn w n = word nodes w n 3 % 4096
 
-abbrev pub childrenIn : List ℕ → ℕ → ℕ
-childrenIn w n = word nodes w n 5 % 4096
+abbrev pub childCountIn : List ℕ → ℕ → ℕ
+childCountIn w n = word nodes w n 5 % 4096
 
 abbrev pub outsIn : List ℕ → ℕ → ℕ
 outsIn w n = word nodes w n 6 % 4096
@@ -33,8 +33,8 @@ abbrev pub childIn : List ℕ → ℕ → ℕ → ℕ
 childIn w n i = word childRefs w (word nodes w n 5 / 4096 + i) 0
 
 -- how many nodes region r has, and its node i
-abbrev pub nodesIn : List ℕ → ℕ → ℕ
-nodesIn w r = word regions w r 1 % 4096
+abbrev pub nodeCountIn : List ℕ → ℕ → ℕ
+nodeCountIn w r = word regions w r 1 % 4096
 
 abbrev pub nodeIn : List ℕ → ℕ → ℕ → ℕ
 nodeIn w r i = word nodeRefs w (word regions w r 1 / 4096 + i) 0
@@ -45,7 +45,7 @@ endsAt w r zero = false
 endsAt w r (suc k) = eqb (word nodes w (nodeIn w r k) 0) 4
 
 abbrev pub endsTest : List ℕ → ℕ → Bool
-endsTest w r = endsAt w r (nodesIn w r)
+endsTest w r = endsAt w r (nodeCountIn w r)
 
 -- region c's outputs fit the outs of node n
 abbrev pub outsTest : List ℕ → ℕ → ℕ → Bool
@@ -56,19 +56,19 @@ abbrev pub caseTest : List ℕ → ℕ → ℕ → Bool
 caseTest w n c = eqb (insIn w c) 0 && outsTest w n c
 
 abbrev pub bodyTest : List ℕ → ℕ → ℕ → Bool
-bodyTest w n c = eqb (valuesIn w n) (insIn w c + 1) && eqb (resultsIn w c) (insIn w c)
+bodyTest w n c = eqb (valueCountIn w n) (insIn w c + 1) && eqb (resultsIn w c) (insIn w c)
 
 unfoldable pub casesTest : List ℕ → ℕ → Bool
-casesTest w n = every (λ i. caseTest w n (childIn w n i)) (below (childrenIn w n))
+casesTest w n = every (λ i. caseTest w n (childIn w n i)) (below (childCountIn w n))
 
 -- node n fits, whose kind's number is k
-abbrev pub kindTest : List ℕ → ℕ → ℕ → Bool
-kindTest w n k =
+abbrev pub nodeKindTest : List ℕ → ℕ → ℕ → Bool
+nodeKindTest w n k =
     cond (eqb k 3) (bodyTest w n (childIn w n 0))
-    (cond (eqb k 1) (eqb (childrenIn w n) 2 && casesTest w n) (cond (eqb k 2) (ltb 0 (childrenIn w n) && casesTest w n) true))
+    (cond (eqb k 1) (eqb (childCountIn w n) 2 && casesTest w n) (cond (eqb k 2) (ltb 0 (childCountIn w n) && casesTest w n) true))
 
 abbrev pub nodeTest : List ℕ → ℕ → Bool
-nodeTest w n = kindTest w n (word nodes w n 0)
+nodeTest w n = nodeKindTest w n (word nodes w n 0)
 
 unfoldable pub nodesTest : List ℕ → Bool
 nodesTest w = every (nodeTest w) (below (count nodes w))
@@ -89,10 +89,10 @@ pub record CountsSafe (w : List ℕ) : Type 0 where
   pub node-room : count nodes w ≤ entryRoom nodes
   pub child-room : count childRefs w ≤ entryRoom childRefs
   -- the children of a node stand in their pool, and each is a region
-  pub child-runs : (n : ℕ) → n < count nodes w → word nodes w n 5 / 4096 + childrenIn w n ≤ count childRefs w
+  pub child-runs : (n : ℕ) → n < count nodes w → word nodes w n 5 / 4096 + childCountIn w n ≤ count childRefs w
   pub child-low : (i : ℕ) → i < count childRefs w → word childRefs w i 0 < count regions w
-  pub loop-child : (n : ℕ) → n < count nodes w → word nodes w n 0 ≡ 3 → 0 < childrenIn w n
+  pub loop-child : (n : ℕ) → n < count nodes w → word nodes w n 0 ≡ 3 → 0 < childCountIn w n
   -- the nodes of a region stand in theirs, and each is a node
   pub ref-room : count nodeRefs w ≤ entryRoom nodeRefs
-  pub region-runs : (r : ℕ) → r < count regions w → word regions w r 1 / 4096 + nodesIn w r ≤ count nodeRefs w
+  pub region-runs : (r : ℕ) → r < count regions w → word regions w r 1 / 4096 + nodeCountIn w r ≤ count nodeRefs w
   pub node-low : (i : ℕ) → i < count nodeRefs w → word nodeRefs w i 0 < count nodes w

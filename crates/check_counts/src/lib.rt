@@ -20,7 +20,7 @@ ghost use Prim.Native.Nat.{_<_};
 ghost use Rattle.func.specs.Layout.{nodes, regions};
 ghost use Rattle.func.specs.Store.{count};
 ghost use Rattle.func.specs.Tables.{word};
-ghost use Rattle.check_counts.specs.Test.{childrenIn, childIn, endsTest, caseTest, bodyTest, casesTest, nodeTest, nodesTest, funcTest, countsTest, CountsSafe};
+ghost use Rattle.check_counts.specs.Test.{childCountIn, childIn, endsTest, caseTest, bodyTest, casesTest, nodeTest, nodesTest, funcTest, countsTest, CountsSafe};
 
 // The last node of region c is an exit.
 fn ends_in_exit(func: &[u32], c: usize) -> bool
@@ -39,7 +39,7 @@ fn ends_in_exit(func: &[u32], c: usize) -> bool
 // Case i of select n has no inputs, and as many outputs as the node, or none where its last node is an exit.
 fn case_fits(func: &[u32], n: usize, i: usize) -> bool
     requires { ⌜ CountsSafe (now func) ⌝ }
-    requires { ⌜ (n < count nodes (now func)) × (i < childrenIn (now func) n) ⌝ }
+    requires { ⌜ (n < count nodes (now func)) × (i < childCountIn (now func) n) ⌝ }
     ensures { λ r. ⌜ r ≡ caseTest (now (func .entry)) n (childIn (now (func .entry)) n i) ⌝ }
 {
     let c = row_child(func, n, i);

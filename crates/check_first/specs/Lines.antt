@@ -14,7 +14,7 @@ use Rattle.lifting.specs.Parts.{constOf, regionOf, nodeOf, opOf, outsOf, callee
 use Rattle.func.specs.declared.OpKind.{OpKind}
 use Rattle.func.specs.declared.OpKind.the-variants.{Inst, Call, Ext}
 use Rattle.func.specs.Tables.{paramOf}
-use Rattle.func.specs.Kinds.{opKind, constFrom, declFrom}
+use Rattle.func.specs.Kinds.{kindOfOp, constFrom, declFrom}
 use Rattle.general_laws.specs.Every.{every-append, every-gather, every-map, every-both, every-same}
 use Rattle.check_counts.specs.Numbered.{every-numbered}
 use Rattle.check_first.specs.declared.Lines.{Lines}
@@ -52,7 +52,7 @@ module _ (F : Func) where
   lineBelow first Params i = ltb (paramOf F i .type) first
   lineBelow first Regions i = every (λ d. ltb (d .type) first) (regionOf F i .ins)
   lineBelow first Nodes i = every (λ d. ltb (d .type) first) (outsOf (nodeOf F i))
-  lineBelow first Ops i = kindBelow first (opKind (opOf F i .kind)) && ltb (opOf F i .type) first
+  lineBelow first Ops i = kindBelow first (kindOfOp (opOf F i .kind)) && ltb (opOf F i .type) first
 
   -- those of all of them are
   unfoldable pub linesBelow : ℕ → Lines → Bool
@@ -63,7 +63,7 @@ abbrev pub headBelow : Func → ℕ → Bool
 headBelow F first = ltb 0 first && (ltb (F .ret) first && ltb (F .type) first)
 
 -- an op's kind
-kind-below : (first : ℕ) (k : DataInstKind) → kindBelow first (opKind k) ≡ every (λ x. ltb x first) (calleeIds k)
+kind-below : (first : ℕ) (k : DataInstKind) → kindBelow first (kindOfOp k) ≡ every (λ x. ltb x first) (calleeIds k)
 kind-below first (inst i) = refl
 kind-below first (call f) = sym (and-true (ltb f first))
 kind-below first (ext s n) = sym (and-true (ltb s first))
@@ -103,9 +103,9 @@ module _ (F : Func) (first : ℕ) where
   op-ids : linesBelow F first Ops ≡ (every p (gather (λ o. calleeIds (o .kind)) (F .ops)) && every p (map (λ o. o .type) (F .ops)))
   unfolding linesBelow p
   op-ids =
-      every-numbered (lineBelow F first Ops) (λ o. kindBelow first (opKind (o .kind)) && p (o .type)) (record { attrs = 0; type = 0; kind = call 0; operands = [] }) (F .ops) 0
+      every-numbered (lineBelow F first Ops) (λ o. kindBelow first (kindOfOp (o .kind)) && p (o .type)) (record { attrs = 0; type = 0; kind = call 0; operands = [] }) (F .ops) 0
       (λ i j h e. ap (lineBelow F first Ops) (omega arith))
-      ∙ every-both (λ (o : Op). kindBelow first (opKind (o .kind))) (λ o. p (o .type)) (F .ops)
+      ∙ every-both (λ (o : Op). kindBelow first (kindOfOp (o .kind))) (λ o. p (o .type)) (F .ops)
       ∙ (λ i. (every-same (λ (o : Op). kind-below first (o .kind)) (F .ops) ∙ sym (every-gather p (λ o. calleeIds (o .kind)) (F .ops))) i && sym (every-map p (λ o. o .type) (F .ops)) i)
 
 -- tests in the order of the ids, and in that of the lines

@@ -1,5 +1,5 @@
 // Refusal 9, but for the ids that would be given: the first id is not 0, and is above every id in the text.
-use check_references::rules::both;
+use check_limits::both;
 use func::OpKind;
 use func_look::const_id;
 use func_look::const_total;

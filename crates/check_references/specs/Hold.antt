@@ -18,18 +18,23 @@ use Rattle.lifting.specs.References.{named, immFits, instFits, controlHolds, re
 use Rattle.func.specs.Layout.{poolTotal, consts, params, decls, values, imms, targets, nodeRefs, opRefs, childRefs, entries, regions, nodes, ops, ctrls, inside, entryRoom, entry-room}
 use Rattle.func.specs.Store.{count, most, view}
 use Rattle.func.specs.Adds.{largest}
-use Rattle.func.specs.Keep.{single, constWords, declWords, valueWords, immWords, opcodeOf, opNumber, opFirst, nodeCells, opCells}
-use Rattle.func.specs.Decode.{numberOf}
+use Rattle.func.specs.Keep.{oneWord, constWords, declWords, valueWords, immWords, instOpcode, opNumber, opFirst, nodeCells, opCells}
+use Rattle.func.specs.Decode.{decodeNumber}
 use Rattle.func.specs.Whole.{collections, sizes, entryList}
 use Rattle.func.specs.Back.{lowered, value-lowered}
 use Rattle.func.specs.Tables.{word}
 use Rattle.func.specs.Stored.{Stored, ins-count, outs-count, op-type}
-use Rattle.check_references.specs.declared.Rule.{Rule}
-use Rattle.check_references.specs.declared.Rule.the-variants.{Named, ConstId, ParamType, DeclType, Callee, ConstOpcode, ImmFits, NodeControl, NodeInst, OpInst}
+use Rattle.check_rules.specs.declared.Rule.{Rule}
+use Rattle.check_rules.specs.declared.Rule.the-variants.{Named, ConstId, ParamType, DeclType, Callee, ConstOpcode, ImmFits, NodeControl, NodeInst, OpInst}
 use Rattle.general_laws.specs.Every.{every-append, every-gather, every-map, every-keys, every-same, every-both}
 use Rattle.check_references.specs.Largest.{every-each, below-largest}
-use Rattle.check_references.specs.Test.{poolFor, opcodeFits, namedTest, calleeTest, opInstTest, allTest, ruleTest, belowTest, regionsTest, idsTest, distinctTest, instsTest, referencesTest}
-use Rattle.check_references.specs.Limits.{limits-test, LimitsReady, ready}
+use Rattle.check_rules.specs.Test.{rule-fits, poolFor, allTest, ruleTest}
+use Rattle.check_insts.specs.Test.{opcodeFits, calleeTest, opInstTest}
+use Rattle.check_values.specs.Test.{namedTest}
+use Rattle.check_lines.specs.Test.{belowTest, regionsTest}
+use Rattle.check_references.specs.Test.{idsTest, instsTest, referencesTest}
+use Rattle.check_const_ids.specs.Test.{distinctTest}
+use Rattle.check_limits.specs.Limits.{limits-test, LimitsReady, ready}
 
 -- The numbers that name lines. A count stops above the room, and is 0 exactly if the size is.
 capped-zero : (n m : ℕ) → eqb (min n (m + 1)) 0 ≡ eqb n 0
@@ -39,11 +44,11 @@ capped-zero n m = go (eqb n 0) refl
     go true e = rw e (eq-eqb (min n (m + 1)) 0 (let h = eqb-true n 0 e in omega arith))
     go false e = rw e (ne-eqb (min n (m + 1)) 0 (λ z. eqb-false n 0 e (omega arith)))
 
-below-is : {A : Type 0} (f : A → ℕ) (xs : List A) (k p m : ℕ) (w : List ℕ) → count k w ≡ min (length xs) (entryRoom k + 1) → most k w ≡ largest (map (λ a. single (f a)) xs) → count p w ≡ m
+below-is : {A : Type 0} (f : A → ℕ) (xs : List A) (k p m : ℕ) (w : List ℕ) → count k w ≡ min (length xs) (entryRoom k + 1) → most k w ≡ largest (map (λ a. oneWord (f a)) xs) → count p w ≡ m
     → belowTest k p w ≡ every (λ a. ltb (f a) m) xs
 below-is f xs k p m w c l t =
     (λ i. eqb (c i) 0 || ltb (l i) (t i))
-    ∙ ap (λ (b : Bool). b || ltb (largest (map (λ a. single (f a)) xs)) m) (capped-zero (length xs) (entryRoom k))
+    ∙ ap (λ (b : Bool). b || ltb (largest (map (λ a. oneWord (f a)) xs)) m) (capped-zero (length xs) (entryRoom k))
     ∙ sym (below-largest f xs m)
 
 -- A line's number that is kept as 65,535 at most names a line exactly if it does itself, as there are fewer lines.
@@ -60,7 +65,7 @@ by-row r n a b l p q = go (ltb r n) refl
         ap (λ (x : Bool). x && a (min r 65535)) (le-ltb (min r 65535) n (omega arith)) ∙ sym (q h)
 
 -- What the kinds of nodes and ops ask.
-node-opcode : (n : Node) → opcodeFits (opcodeOf (nodeInsts n)) ≡ every (λ i. opcodeFits (i .opcode)) (nodeInsts n)
+node-opcode : (n : Node) → opcodeFits (instOpcode (nodeInsts n)) ≡ every (λ i. opcodeFits (i .opcode)) (nodeInsts n)
 unfolding opcodeFits ℕ-discrete
 node-opcode (block is) = refl
 node-opcode (select boolCond v cs ds u) = refl
@@ -92,10 +97,10 @@ module _ {F : Func} {w : List ℕ} (s : Stored F w) (limits : withinLimits F ≡
   region-total = total regions (lit< tt) (fit .regions)
 
   node-total : count nodes w ≡ length (F .nodes)
-  node-total = total nodes (lit< tt) (fit .fits NodeInst)
+  node-total = total nodes (lit< tt) (fit .nodes)
 
   op-total : count ops w ≡ length (F .ops)
-  op-total = total ops (lit< tt) (fit .fits OpInst)
+  op-total = total ops (lit< tt) (fit .ops)
 
   -- values
   few : (k : ℕ) → k < poolTotal → count k w ≤ entryRoom k → count k w ≤ 65535
@@ -104,27 +109,27 @@ module _ {F : Func} {w : List ℕ} (s : Stored F w) (limits : withinLimits F ≡
   low : (v : Value) → namedTest w (lowered v) ≡ named F v
   unfolding namedTest
   low (const n) =
-      let t = total consts (lit< tt) (fit .fits ConstId) in
+      let t = total consts (lit< tt) (fit .consts) in
       sym (and-true (ltb (min n 65535) (count consts w)))
-      ∙ by-row n (count consts w) (λ k. true) (ltb n (length (F .consts))) (few consts (lit< tt) (fit .fits ConstId)) (λ h. sym (lt-ltb n (length (F .consts)) (omega arith)))
+      ∙ by-row n (count consts w) (λ k. true) (ltb n (length (F .consts))) (few consts (lit< tt) (fit .consts)) (λ h. sym (lt-ltb n (length (F .consts)) (omega arith)))
       (λ h. le-ltb n (length (F .consts)) (omega arith))
   low (regionInput r x) =
       by-row r (count regions w) (λ n. ltb x (word regions w n 0 % 4096)) (ltb x (length (text.regionOf F r .ins))) (few regions (lit< tt) (fit .regions))
-      (λ h. ap (ltb x) (ins-count s (fit .regions) r (omega (arith, region-total)) (fit .fits DeclType)))
+      (λ h. ap (ltb x) (ins-count s (fit .regions) r (omega (arith, region-total)) (fit .decls)))
       (λ h. ap (λ (g : Region). ltb x (length (g .ins))) (List·getD-eq-default (F .regions) _ {n = r} (omega (arith, region-total))) ∙ le-ltb x 0 (omega arith))
   low (nodeOutput n x) =
-      by-row n (count nodes w) (λ m. ltb x (word nodes w m 6 % 4096)) (ltb x (length (outsOf (text.nodeOf F n)))) (few nodes (lit< tt) (fit .fits NodeInst))
-      (λ h. ap (ltb x) (outs-count s (fit .fits NodeInst) n (omega (arith, node-total)) (fit .fits DeclType)))
+      by-row n (count nodes w) (λ m. ltb x (word nodes w m 6 % 4096)) (ltb x (length (outsOf (text.nodeOf F n)))) (few nodes (lit< tt) (fit .nodes))
+      (λ h. ap (ltb x) (outs-count s (fit .nodes) n (omega (arith, node-total)) (fit .decls)))
       (λ h. ap (λ (g : Node). ltb x (length (outsOf g))) (List·getD-eq-default (F .nodes) _ {n = n} (omega (arith, node-total))) ∙ le-ltb x 0 (omega arith))
   low (dataInstOutput o) =
-      by-row o (count ops w) (λ m. ltb 0 (word ops w m 1)) (ltb 0 (text.opOf F o .type)) (few ops (lit< tt) (fit .fits OpInst))
-      (λ h. ap (ltb 0) (op-type s (fit .fits OpInst) o (omega (arith, op-total))))
+      by-row o (count ops w) (λ m. ltb 0 (word ops w m 1)) (ltb 0 (text.opOf F o .type)) (few ops (lit< tt) (fit .ops))
+      (λ h. ap (ltb 0) (op-type s (fit .ops) o (omega (arith, op-total))))
       (λ h. ap (λ (g : Op). ltb 0 (g .type)) (List·getD-eq-default (F .ops) _ {n = o} (omega (arith, op-total))))
 
   -- a rule over a pool of parts is one over its collection
   over : {A : Type 0} (r : Rule) → poolFor r < 9 → (f : A → List ℕ) (xs : List A) → getD (collections F) (poolFor r) [] ≡ map f xs → allTest w r ≡ every (λ a. ruleTest w r (f a)) xs
   unfolding allTest
-  over r l f xs e = ap (every (ruleTest w r)) (held (poolFor r) l (fit .fits r) ∙ e) ∙ every-map (ruleTest w r) f xs
+  over r l f xs e = ap (every (ruleTest w r)) (held (poolFor r) l (rule-fits fit r) ∙ e) ∙ every-map (ruleTest w r) f xs
 
   values-named : allTest w Named ≡ every (named F) (text.values F)
   values-named = over Named (lit< tt) valueWords (text.values F) refl ∙ every-same (λ v. ap (namedTest w) (value-lowered v) ∙ low v) (text.values F)
@@ -150,7 +155,7 @@ module _ {F : Func} {w : List ℕ} (s : Stored F w) (limits : withinLimits F ≡
   callees =
       every-each (ruleTest w Callee) (λ (o : Op). every (λ x. ltb 0 x) (calleeIds (o .kind)))
       (λ e o r. (λ i. calleeTest (r .cell 2 (lit< tt) i) (r .cell 3 (lit< tt) i)) ∙ op-callee (o .kind))
-      (s .rows .ops (fit .fits Callee))
+      (s .rows .ops (fit .ops))
       ∙ sym (every-gather (λ x. ltb 0 x) (λ o. calleeIds (o .kind)) (F .ops))
 
   fits : Inst → Bool
@@ -159,19 +164,19 @@ module _ {F : Func} {w : List ℕ} (s : Stored F w) (limits : withinLimits F ≡
   node-insts : allTest w NodeInst ≡ every fits (gather nodeInsts (F .nodes))
   unfolding allTest nodeCells fits
   node-insts =
-      every-each (ruleTest w NodeInst) (λ n. every fits (nodeInsts n)) (λ e n r. ap opcodeFits (r .cell 1 (lit< tt)) ∙ node-opcode n) (s .rows .nodes (fit .fits NodeInst))
+      every-each (ruleTest w NodeInst) (λ n. every fits (nodeInsts n)) (λ e n r. ap opcodeFits (r .cell 1 (lit< tt)) ∙ node-opcode n) (s .rows .nodes (fit .nodes))
       ∙ sym (every-gather fits nodeInsts (F .nodes))
 
   node-controls : allTest w NodeControl ≡ every controlHolds (F .nodes)
   unfolding allTest nodeCells
-  node-controls = every-each (ruleTest w NodeControl) controlHolds (λ e n r. ap (λ (u : ℕ). leb u maxControl) (r .cell 7 (lit< tt))) (s .rows .nodes (fit .fits NodeControl))
+  node-controls = every-each (ruleTest w NodeControl) controlHolds (λ e n r. ap (λ (u : ℕ). leb u maxControl) (r .cell 7 (lit< tt))) (s .rows .nodes (fit .nodes))
 
   op-insts : allTest w OpInst ≡ every fits (gather (λ o. opInsts (o .kind)) (F .ops))
   unfolding allTest opCells fits
   op-insts =
       every-each (ruleTest w OpInst) (λ (o : Op). every fits (opInsts (o .kind)))
       (λ e o r. (λ i. opInstTest (r .cell 2 (lit< tt) i) (r .cell 3 (lit< tt) i)) ∙ op-opcode (o .kind))
-      (s .rows .ops (fit .fits OpInst))
+      (s .rows .ops (fit .ops))
       ∙ sym (every-gather fits (λ o. opInsts (o .kind)) (F .ops))
 
   -- the numbers of nodes, ops and regions
@@ -237,7 +242,7 @@ module _ {F : Func} {w : List ℕ} (s : Stored F w) (limits : withinLimits F ≡
 
   ids-distinct : distinctTest w ≡ distinct (map (λ c. c .id) (F .consts))
   unfolding distinctTest
-  ids-distinct = ap distinct (ap (map numberOf) (held consts (lit< tt) (fit .fits ConstId)) ∙ map-map numberOf constWords (F .consts))
+  ids-distinct = ap distinct (ap (map decodeNumber) (held consts (lit< tt) (fit .consts)) ∙ map-map decodeNumber constWords (F .consts))
 
   -- INSTs
   insts-fit : (b : Bool) → b ≡ every fits (gather (λ c. ctrlInsts (c .1 .kind)) (F .ctrls)) → (instsTest w && b) ≡ every instFits (text.insts F)

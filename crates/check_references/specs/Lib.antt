@@ -1,5 +1,4 @@
--- Refusals 3 and 4, judged by the words of the function slice.
+-- Refusal 4, judged by the words of the function slice.
 pub mod Largest
 pub mod Test
-pub mod Limits
 pub mod Hold

@@ -9,7 +9,7 @@ ghost use Prim.Native.Nat.{_<_};
 ghost use lib.ListN.{length};
 ghost use Rattle.lifting.specs.Control.{controlFits, targetsDiffer};
 ghost use Rattle.func.specs.Decode.{funcOf};
-ghost use Rattle.func.specs.Tables.{Tables, ctrlLine};
+ghost use Rattle.func.specs.Tables.{Tables, ctrlLineOf};
 ghost use Rattle.check_targets.specs.Lines.{boolTest, lineCounts, lineDiffers};
 
 // A line of this kind is a `bool` ctrl.
@@ -30,8 +30,8 @@ fn by_bool(kind: CtrlKind) -> bool
 fn line_differs(func: &[u32], c: usize) -> bool
     requires { ⌜ Tables (now func) ⌝ }
     requires { ⌜ c < length (funcOf (now func) .ctrls) ⌝ }
-    requires { ⌜ lineCounts (ctrlLine (funcOf (now func)) c) ≡ true ⌝ }
-    ensures { λ x. ⌜ x ≡ lineDiffers (ctrlLine (funcOf (now (func .entry))) c) ⌝ }
+    requires { ⌜ lineCounts (ctrlLineOf (funcOf (now func)) c) ≡ true ⌝ }
+    ensures { λ x. ⌜ x ≡ lineDiffers (ctrlLineOf (funcOf (now (func .entry))) c) ⌝ }
 {
     if !by_bool(ctrl_kind(func, c)) {
         return true;

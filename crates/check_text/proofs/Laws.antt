@@ -5,11 +5,12 @@ use mathlib.Core.List.{List}
 use Prim.Native.Nat.{ℕ}
 use Rattle.lifting.specs.Control.{controlFits, targetsDiffer}
 use Rattle.func.specs.Decode.{funcOf}
-use Rattle.check_references.specs.Test.{limitsTest, referencesTest}
-use Rattle.check_tree.specs.Test.{treeTest}
+use Rattle.check_limits.specs.Limits.{limitsTest}
+use Rattle.check_references.specs.Test.{referencesTest}
+use Rattle.check_marks.specs.Test.{treeTest}
 use Rattle.check_counts.specs.Test.{countsTest}
 use Rattle.refusals.specs.declared.Refusal.the-variants.{Limits, References, Tree, Counts, Control, Targets}
-use Rattle.check_text.specs.declared.Parsed.the-variants.{Function, Refused}
+use Rattle.results.specs.declared.Parsed.the-variants.{Function, Refused}
 use Rattle.check_text.specs.Test.{judge, fewTest, checksTest}
 
 -- refusal 6 is judged by two tests

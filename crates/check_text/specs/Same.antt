@@ -1,7 +1,7 @@
 -- The tests of the words are document 01's refusals 3 to 7 and document 02's 13, for every text. Assumes nothing.
 --     checks-safe     the code stays within the slice
 --     checks-same     what it computes, with what the reader judged of ctrl lines, is the first refusal
---     passes, back    a text without a refusal passes each, and stands in the slice whole
+--     passes, stands-back    a text without a refusal passes each, and stands in the slice whole
 use mathlib.Core.Path.{_≡_, refl, sym, ap, subst, _∙_}
 use mathlib.Core.Bool.{Bool, true, false, _&&_, false≢true}
 use mathlib.Core.List.{List}
@@ -31,16 +31,18 @@ use Rattle.func.specs.Decode.{funcOf}
 use Rattle.func.specs.Back.{RowFits, func-back}
 use Rattle.func.specs.Tables.{Tables, tables-func}
 use Rattle.func_fits.specs.Parsed.{Few, fits-few, few-control}
-use Rattle.check_references.specs.Test.{limitsTest, opcodeFits, referencesTest}
-use Rattle.check_references.specs.Limits.{limits-test}
+use Rattle.check_limits.specs.Limits.{limitsTest}
+use Rattle.check_insts.specs.Test.{opcodeFits}
+use Rattle.check_references.specs.Test.{referencesTest}
+use Rattle.check_limits.specs.Limits.{limits-test}
 use Rattle.check_references.specs.Hold.{references-test}
-use Rattle.check_tree.specs.Test.{treeTest}
+use Rattle.check_marks.specs.Test.{treeTest}
 use Rattle.check_tree.specs.Same.{tree-safe, tree-test}
 use Rattle.check_counts.specs.Same.{counts-safe, counts-test}
 use Rattle.walk_roots.specs.Tables.{RegionsNamed}
 use Rattle.check_control.specs.Meets.{named-refers}
-use Rattle.check_text.specs.declared.Parsed.{Parsed}
-use Rattle.check_text.specs.declared.Parsed.the-variants.{Function, Refused}
+use Rattle.results.specs.declared.Parsed.{Parsed}
+use Rattle.results.specs.declared.Parsed.the-variants.{Function, Refused}
 use Rattle.check_text.specs.Test.{judge, fewTest, checksTest, ChecksSafe}
 
 -- what the code's answer says of the function
@@ -189,8 +191,8 @@ pub record Stands (F : Func) (w : List ℕ) : Type 0 where
   pub tables : Tables w
   pub named : RegionsNamed (funcOf w)
 
-pub back : (F : Func) {z : List ℕ} → Clear z → checked F ≡ parsed F → Stands F (keepFunc F z)
-back F clear e =
+pub stands-back : (F : Func) {z : List ℕ} → Clear z → checked F ≡ parsed F → Stands F (keepFunc F z)
+stands-back F clear e =
     let p = passes F F e .1 in
     let few = few-control F (p .limits) (p .references) (p .control) in
     record {

@@ -15,12 +15,13 @@ use Rattle.func.specs.Layout.{funcNeed, entries, ctrls}
 use Rattle.func.specs.Store.{count}
 use Rattle.func.specs.Decode.{funcOf}
 use Rattle.func.specs.Tables.{Tables}
-use Rattle.check_references.specs.Test.{limitsTest, referencesTest}
-use Rattle.check_tree.specs.Test.{treeTest, TreeSafe}
+use Rattle.check_limits.specs.Limits.{limitsTest}
+use Rattle.check_references.specs.Test.{referencesTest}
+use Rattle.check_marks.specs.Test.{treeTest, TreeSafe}
 use Rattle.check_counts.specs.Test.{countsTest, CountsSafe}
 use Rattle.walk_roots.specs.Tables.{RegionsNamed}
-use Rattle.check_text.specs.declared.Parsed.{Parsed}
-use Rattle.check_text.specs.declared.Parsed.the-variants.{Function, Refused}
+use Rattle.results.specs.declared.Parsed.{Parsed}
+use Rattle.results.specs.declared.Parsed.the-variants.{Function, Refused}
 
 -- the first of the tests of 3 to 7 and 13 that is not passed
 abbrev pub judge : Bool → Bool → Bool → Bool → Bool → Bool → Parsed

@@ -2,9 +2,9 @@
 // to be there.
 use check_control::control;
 use check_counts::counts;
-use check_references::limits;
+use check_limits::both;
+use check_limits::limits;
 use check_references::references;
-use check_references::rules::both;
 use check_targets::targets_differ;
 use check_tree::is_tree;
 use func_pools::CTRLS;
@@ -13,18 +13,13 @@ use func_pools::count;
 use refusals::Refusal;
 use refusals::limits::MAX_REGIONS;
 use refusals::limits::MAX_TARGETS;
+use results::Parsed;
 ghost use mathlib.Core.Path.{_≡_};
 ghost use Prim.Native.Nat.{_≤_};
 ghost use lib.ListN.{length};
 ghost use Rattle.func.specs.Layout.{funcNeed};
 ghost use Rattle.work.specs.Layout.{workNeed};
 ghost use Rattle.check_text.specs.Test.{fewTest, checksTest, ChecksSafe};
-
-// The function stands in the function slice, or a refusal.
-pub enum Parsed {
-    Function,
-    Refused(Refusal),
-}
 
 // There are no more ctrl lines and entries than the slice has room for. Refusal 3 bounds neither, and a text with more fails 7.
 fn few(func: &[u32]) -> bool

@@ -13,7 +13,7 @@ use lib.Dec.{eqb, leb, ltb, lit<}
 use lib.ListN.{length, getD, List·getD-map, List·getD-eq-default}
 use borrow.Author.Tests.{eqb-true, eq-eqb, leb-true, ltb-true, ltb-false}
 use Rattle.general_laws.specs.Every.{every-at, every-split}
-use Rattle.general_laws.specs.Tests.{both}
+use Rattle.general_laws.specs.Tests.{both, split}
 use Rattle.general_laws.specs.Lists.{tabulate, below, every, gather, within, distinct}
 use Rattle.lifting.specs.Ast.{Func, block}
 use Rattle.lifting.specs.Parts.{regionOf, nodeOf, childrenOf, values, insts, nodeList, opList, childList, ctrlRegions, requiredIds}
@@ -23,15 +23,16 @@ use Rattle.lifting.specs.Tree.{standsOnce, holds, someIf, parentBelow, parentOf
 use Rattle.general_laws.specs.Gather.{gather-same}
 use Rattle.func.specs.Layout.{nodeRefs, opRefs, childRefs, regions, nodes, ops, ctrls, entryRoom}
 use Rattle.func.specs.Store.{count, view, length-view}
-use Rattle.func.specs.Keep.{single}
-use Rattle.func.specs.Decode.{numberOf}
+use Rattle.func.specs.Keep.{oneWord}
+use Rattle.func.specs.Decode.{decodeNumber}
 use Rattle.func.specs.Whole.{collections, sizes}
 use Rattle.func.specs.Tables.{Listed, word, list-count, item-is}
-use Rattle.func.specs.Stored.{Stored, region-nodes, node-children, unsingle}
-use Rattle.check_tree.specs.Once.{Below, split, within-same, within-other, every-same, fits, once, once-back}
-use Rattle.check_tree.specs.Test.{numbers, refs, onceTest, childFit, childTest, nodesIn, childrenIn, kids, parentIn, climbs, acyclic, cycleTest, treeTest, Refs, TreeSafe}
-use Rattle.check_tree.specs.Marks.{climb-out, climb-back, climb-on, climb-none}
-use Rattle.check_tree.specs.Fit.{fit-low, fit-forth, fit-back}
+use Rattle.func.specs.Stored.{Stored, stored-nodes, stored-children, unsingle}
+use Rattle.general_laws.specs.Fewer.{fits}
+use Rattle.check_marks.specs.Once.{Below, within-same, within-other, tab-same-test, once, once-back}
+use Rattle.check_marks.specs.Test.{poolNumbers, refs, onceTest, childFit, childTest, nodeRefsIn, childRefsIn, kids, parentIn, climbs, acyclic, cycleTest, treeTest, Refs, TreeSafe}
+use Rattle.check_marks.specs.Marks.{climb-out, climb-back, climb-on, climb-none}
+use Rattle.check_marks.specs.Fit.{fit-low, fit-forth, fit-back}
 
 -- a list that a function gives, place by place
 tabulated : (f : ℕ → ℕ) (xs : List ℕ) (a : ℕ) → ((i j : ℕ) → i < length xs → j ≡ a + i → f j ≡ getD xs i 0) → tabulate f a (length xs) ≡ xs
@@ -41,18 +42,18 @@ tabulated f (x ∷ xs) a h =
     ∙ ap (λ (l : List ℕ). x ∷ l) (tabulated f xs (suc a) (λ i j l e. h (suc i) j (omega arith) (omega arith)))
 
 -- a list of a row
-listed-is : {p : ℕ} {xs w : List ℕ} {x : ℕ} → Listed p single xs w x → numbers p w (x / 4096) (x % 4096) ≡ xs
-unfolding numbers
+listed-is : {p : ℕ} {xs w : List ℕ} {x : ℕ} → Listed p oneWord xs w x → poolNumbers p w (x / 4096) (x % 4096) ≡ xs
+unfolding poolNumbers
 listed-is {p} {xs} {w} {x} s =
-    ap (numbers p w (x / 4096)) (list-count s)
+    ap (poolNumbers p w (x / 4096)) (list-count s)
     ∙ tabulated (λ i. word p w i 0) xs (x / 4096) (λ i j h e. ap (λ (z : List ℕ). getD z 0 0) (item-is s i h 0 e))
 
 -- without a row there is no list
-row-none : (k p j : ℕ) (w : List ℕ) (n : ℕ) → count k w ≤ n → numbers p w (word k w n j / 4096) (word k w n j % 4096) ≡ []
-unfolding numbers
+row-none : (k p j : ℕ) (w : List ℕ) (n : ℕ) → count k w ≤ n → poolNumbers p w (word k w n j / 4096) (word k w n j % 4096) ≡ []
+unfolding poolNumbers
 row-none k p j w n h =
     let e : getD (view k w) n [] ≡ [] = List·getD-eq-default (view k w) [] {n = n} (omega (arith, length-view k w)) in
-    ap (λ (z : List ℕ). numbers p w (getD z j 0 / 4096) (getD z j 0 % 4096)) e
+    ap (λ (z : List ℕ). poolNumbers p w (getD z j 0 / 4096) (getD z j 0 % 4096)) e
 
 -- what the lines of a list give, by their numbers
 gather-lines : {A : Type 0} (f : A → List ℕ) (xs : List A) (d : A) (a : ℕ) (g : ℕ → List ℕ) → ((i : ℕ) → i < length xs → g (a + i) ≡ f (getD xs i d)) → gather g (tabulate (λ i. i) a (length xs)) ≡ gather f xs
@@ -137,21 +138,21 @@ module _ (F : Func) (w : List ℕ) (s : Stored F w) (l : withinLimits F ≡ true
   op-count = omega (arith, s .counts ops (lit< tt), limits F l)
 
   -- a pool of references that is within its room
-  module _ (k : ℕ) (xs : List ℕ) (b : k < 9) (z : getD (sizes F) k 0 ≡ length xs) (v : getD (collections F) k [] ≡ map single xs) where
+  module _ (k : ℕ) (xs : List ℕ) (b : k < 9) (z : getD (sizes F) k 0 ≡ length xs) (v : getD (collections F) k [] ≡ map oneWord xs) where
     ref-count : count k w ≡ min (length xs) (entryRoom k + 1)
     ref-count = s .counts k (omega arith) ∙ ap (λ (n : ℕ). min n (entryRoom k + 1)) z
 
     ref-at : count k w ≤ entryRoom k → (j : ℕ) → word k w j 0 ≡ getD xs j 0
     ref-at f j =
-        sym (List·getD-map numberOf (view k w) j [])
-        ∙ ap (λ (x : List (List ℕ)). getD (map numberOf x) j 0) (s .views k b (omega (arith, ref-count)) ∙ v)
+        sym (List·getD-map decodeNumber (view k w) j [])
+        ∙ ap (λ (x : List (List ℕ)). getD (map decodeNumber x) j 0) (s .views k b (omega (arith, ref-count)) ∙ v)
         ∙ ap (λ (x : List ℕ). getD x j 0) (unsingle xs)
 
     refs-are : count k w ≤ entryRoom k → refs k w ≡ xs
-    unfolding numbers
+    unfolding poolNumbers
     refs-are f =
         let e : count k w ≡ length xs = omega (arith, ref-count) in
-        ap (numbers k w 0) e ∙ tabulated (λ i. word k w i 0) xs 0 (λ i j m q. ref-at f j ∙ ap (λ (n : ℕ). getD xs n 0) (omega arith))
+        ap (poolNumbers k w 0) e ∙ tabulated (λ i. word k w i 0) xs 0 (λ i j m q. ref-at f j ∙ ap (λ (n : ℕ). getD xs n 0) (omega arith))
 
     refs-named : (p : ℕ) → count p w ≤ entryRoom k → Below (count p w) xs → Refs k p w
     refs-named p o c = record {
@@ -172,20 +173,20 @@ module _ (F : Func) (w : List ℕ) (s : Stored F w) (l : withinLimits F ≡ true
   child-below : Below (count regions w) (childList F)
   child-below = subst (λ n. Below n (childList F)) (sym region-count) (references F h .2)
 
-  children-are : count childRefs w ≤ entryRoom childRefs → (n : ℕ) → childrenIn w n ≡ childrenOf (nodeOf F n)
+  children-are : count childRefs w ≤ entryRoom childRefs → (n : ℕ) → childRefsIn w n ≡ childrenOf (nodeOf F n)
   children-are g n = go (ltb n (count nodes w)) refl
     where
-      go : (b : Bool) → ltb n (count nodes w) ≡ b → childrenIn w n ≡ childrenOf (nodeOf F n)
-      go true q = listed-is (node-children s (omega (arith, node-count, limits F l)) n (omega (arith, node-count, ltb-true n (count nodes w) q)) g)
+      go : (b : Bool) → ltb n (count nodes w) ≡ b → childRefsIn w n ≡ childrenOf (nodeOf F n)
+      go true q = listed-is (stored-children s (omega (arith, node-count, limits F l)) n (omega (arith, node-count, ltb-true n (count nodes w) q)) g)
       go false q =
           row-none nodes childRefs 5 w n (ltb-false n (count nodes w) q)
           ∙ ap childrenOf (sym (List·getD-eq-default (F .nodes) _ {n = n} (omega (arith, node-count, ltb-false n (count nodes w) q))))
 
   -- the children of the nodes one after the other
-  lists-are : count childRefs w ≤ entryRoom childRefs → gather (childrenIn w) (below (count nodes w)) ≡ refs childRefs w
+  lists-are : count childRefs w ≤ entryRoom childRefs → gather (childRefsIn w) (below (count nodes w)) ≡ refs childRefs w
   unfolding childList
   lists-are g =
-      gather-same (childrenIn w) (λ n. childrenOf (nodeOf F n)) (children-are g) (below (count nodes w))
+      gather-same (childRefsIn w) (λ n. childrenOf (nodeOf F n)) (children-are g) (below (count nodes w))
       ∙ ap (λ (n : ℕ). gather (λ n. childrenOf (nodeOf F n)) (below n)) node-count
       ∙ gather-lines childrenOf (F .nodes) (block []) 0 (λ n. childrenOf (nodeOf F n)) (λ i h. ap (λ (k : ℕ). childrenOf (nodeOf F k)) (zero-add i))
       ∙ sym (refs-are childRefs (childList F) (lit< tt) refl refl g)
@@ -198,9 +199,9 @@ module _ (F : Func) (w : List ℕ) (s : Stored F w) (l : withinLimits F ≡ true
     node-refs = refs-named nodeRefs (nodeList F) (lit< tt) refl refl nodes (omega (arith, node-count, limits F l)) node-below;
     op-refs = refs-named opRefs (opList F) (lit< tt) refl refl ops (omega (arith, op-count, limits F l)) op-below;
     child-refs = refs-named childRefs (childList F) (lit< tt) refl refl regions (omega (arith, region-count, limits F l)) child-below;
-    region-runs = λ f r m. region-nodes s (omega (arith, region-count, limits F l)) r (omega (arith, region-count)) f .piece .within;
+    region-runs = λ f r m. stored-nodes s (omega (arith, region-count, limits F l)) r (omega (arith, region-count)) f .piece .within;
     node-lists = lists-are;
-    node-runs = λ f n m. node-children s (omega (arith, node-count, limits F l)) n (omega (arith, node-count)) f .piece .within;
+    node-runs = λ f n m. stored-children s (omega (arith, node-count, limits F l)) n (omega (arith, node-count)) f .piece .within;
   }
 
   ctrl-count : count ctrls w ≡ min (length (F .ctrls)) 129
@@ -211,8 +212,8 @@ module _ (F : Func) (w : List ℕ) (s : Stored F w) (l : withinLimits F ≡ true
     kids-are : (r : ℕ) → r < length (F .regions) → kids w r ≡ gather (λ n. childrenOf (nodeOf F n)) (regionOf F r .nodes)
     unfolding kids
     kids-are r m =
-        gather-same (childrenIn w) (λ n. childrenOf (nodeOf F n)) (children-are g) (nodesIn w r)
-        ∙ ap (gather (λ n. childrenOf (nodeOf F n))) (listed-is (region-nodes s (tree-safe .region-room) r m f))
+        gather-same (childRefsIn w) (λ n. childrenOf (nodeOf F n)) (children-are g) (nodeRefsIn w r)
+        ∙ ap (gather (λ n. childrenOf (nodeOf F n))) (listed-is (stored-nodes s (tree-safe .region-room) r m f))
 
     parent-is : (k : ℕ) → k ≤ length (F .regions) → (c : ℕ) → parentIn w k c ≡ code (parentBelow F k c)
     unfolding parentIn
@@ -226,11 +227,11 @@ module _ (F : Func) (w : List ℕ) (s : Stored F w) (l : withinLimits F ≡ true
     around-are : cycleTest w ≡ every (λ r. not (aroundItself F r)) (below (length (F .regions)))
     around-are =
         ap (λ (n : ℕ). acyclic (parentIn w n) n) region-count
-        ∙ every-same (λ r. not (climbs (parentIn w (length (F .regions))) r (length (F .regions)) r)) (λ r. not (aroundItself F r)) 0 (length (F .regions))
+        ∙ tab-same-test (λ r. not (climbs (parentIn w (length (F .regions))) r (length (F .regions)) r)) (λ r. not (aroundItself F r)) 0 (length (F .regions))
         (λ r m. ap not (climbs-are F (parentIn w (length (F .regions))) (parent-is (length (F .regions)) (omega arith)) r (length (F .regions)) r))
 
   -- a pool in which each line stands once
-  module _ (k p : ℕ) (xs : List ℕ) (m : k < 9) (z : getD (sizes F) k 0 ≡ length xs) (v : getD (collections F) k [] ≡ map single xs) (r : Refs k p w) (b : Below (count p w) xs) where
+  module _ (k p : ℕ) (xs : List ℕ) (m : k < 9) (z : getD (sizes F) k 0 ≡ length xs) (v : getD (collections F) k [] ≡ map oneWord xs) (r : Refs k p w) (b : Below (count p w) xs) where
     once-forth : onceTest k p w ≡ true → standsOnce (count p w) xs ≡ true
     once-forth e =
         let q = both (eqb (count k w) (count p w)) (distinct (refs k w)) e in

@@ -2,7 +2,7 @@
 --     openedOf     the command, and the place where the input starts
 --     opened-cut   the first bytes of a case tell it
 --     opened-low   the input starts among them
---     word-is, opened-none, opened-line    by what is found there
+--     word-command, opened-none, opened-line    by what is found there
 use mathlib.Core.Path.{_≡_, refl, sym, ap, _∙_}
 use mathlib.Core.Bool.{Bool, true, false, cond}
 use mathlib.Core.List.{List, [], _∷_}
@@ -66,9 +66,9 @@ found l b n e =
     let same : 0 + indexOf b (take (length l) l) ≡ indexOf b (take (length l) l) = omega arith in
     e ∙ same ∙ ap (indexOf b) (take-all (length l) l (omega arith))
 
-pub word-is : (line : List ℕ) (n : ℕ) (r : Command) → n ≡ 0 + indexOf 32 (slice 0 (length line) line) → r ≡ nameOf (take n line) → r ≡ wordOf line
+pub word-command : (line : List ℕ) (n : ℕ) (r : Command) → n ≡ 0 + indexOf 32 (slice 0 (length line) line) → r ≡ nameOf (take n line) → r ≡ wordOf line
 unfolding wordOf
-word-is line n r e f = f ∙ ap (λ (k : ℕ). nameOf (take k line)) (found line 32 n e)
+word-command line n r e f = f ∙ ap (λ (k : ℕ). nameOf (take k line)) (found line 32 n e)
 
 module _ (case head : List ℕ) (n : ℕ) (is : head ≡ take lineRoom case) (at : n ≡ 0 + indexOf 10 (slice 0 (length head) head)) where
   abbrev by : Bool → ℕ → Command × ℕ

@@ -20,9 +20,9 @@ ghost use lib.ListN.{length, getD};
 ghost use Rattle.lifting.specs.Walk.{lineTerm};
 ghost use Rattle.lifting.specs.Ast.{const};
 ghost use Rattle.func.specs.Decode.{funcOf};
-ghost use Rattle.func.specs.Tables.{Tables, ctrlLine};
-ghost use Rattle.func.specs.Kinds.{asDecl, asValue, declFrom};
-ghost use Rattle.terminators.specs.At.{blockAt};
+ghost use Rattle.func.specs.Tables.{Tables, ctrlLineOf};
+ghost use Rattle.func.specs.Kinds.{declOfSlot, asValue, declFrom};
+ghost use Rattle.terminators.specs.At.{visitedBlock};
 ghost use Rattle.terminators.specs.Edges.{valuesAlong};
 ghost use Rattle.terminators.specs.Visited.{Visited};
 ghost use Rattle.terminators.specs.Kinds.{Known, termOf};
@@ -32,8 +32,8 @@ ghost use Rattle.emit_lists.specs.Phis.{Carries, OutsCarried};
 pub fn phi_decl(func: &[u32], work: &[u32], m: usize, i: usize, j: usize) -> Slot
     requires { ⌜ Visited (now func) (now work) m ⌝ }
     requires { ⌜ i < m ⌝ }
-    requires { ⌜ j < length (blockAt (funcOf (now func)) i .keys) ⌝ }
-    ensures { λ x. ⌜ asDecl x ≡ getD (blockAt (funcOf (now (func .entry))) i .decls) j (declFrom 0 0) ⌝ }
+    requires { ⌜ j < length (visitedBlock (funcOf (now func)) i .keys) ⌝ }
+    ensures { λ x. ⌜ declOfSlot x ≡ getD (visitedBlock (funcOf (now (func .entry))) i .decls) j (declFrom 0 0) ⌝ }
 {
     let p = point(func, work, m, i);
     match p {
@@ -48,7 +48,7 @@ pub fn phi_decl(func: &[u32], work: &[u32], m: usize, i: usize, j: usize) -> Slo
 fn line_carries(func: &[u32], c: usize) -> Carried
     requires { ⌜ Tables (now func) ⌝ }
     requires { ⌜ c < length (funcOf (now func) .ctrls) ⌝ }
-    ensures { λ x. ⌜ Carries (funcOf (now (func .entry))) (lineTerm (ctrlLine (funcOf (now (func .entry))) c .1) .vals) x ⌝ }
+    ensures { λ x. ⌜ Carries (funcOf (now (func .entry))) (lineTerm (ctrlLineOf (funcOf (now (func .entry))) c .1) .vals) x ⌝ }
 {
     if entry_count(func, c) == 0 {
         return Carried::Defaults;
@@ -90,8 +90,8 @@ fn carries(func: &[u32], w: TermKind) -> Carried
 fn default_value(func: &[u32], work: &[u32], m: usize, i: usize, j: usize) -> Val
     requires { ⌜ Visited (now func) (now work) m ⌝ }
     requires { ⌜ i < m ⌝ }
-    requires { ⌜ j < length (blockAt (funcOf (now func)) i .defaults) ⌝ }
-    ensures { λ x. ⌜ asValue x ≡ getD (blockAt (funcOf (now (func .entry))) i .defaults) j (const 0) ⌝ }
+    requires { ⌜ j < length (visitedBlock (funcOf (now func)) i .defaults) ⌝ }
+    ensures { λ x. ⌜ asValue x ≡ getD (visitedBlock (funcOf (now (func .entry))) i .defaults) j (const 0) ⌝ }
 {
     let p = point(func, work, m, i);
     match p {
@@ -114,8 +114,8 @@ pub fn edge_value(
 ) -> Val
     requires { ⌜ Visited (now func) (now work) m ⌝ }
     requires { ⌜ (i < m) × (p < m) ⌝ }
-    requires { ⌜ j < length (valuesAlong (blockAt (funcOf (now func)) p .term .vals) e (blockAt (funcOf (now func)) i .defaults)) ⌝ }
-    ensures { λ x. ⌜ asValue x ≡ getD (valuesAlong (blockAt (funcOf (now (func .entry))) p .term .vals) e (blockAt (funcOf (now (func .entry))) i .defaults)) j (const 0) ⌝ }
+    requires { ⌜ j < length (valuesAlong (visitedBlock (funcOf (now func)) p .term .vals) e (visitedBlock (funcOf (now func)) i .defaults)) ⌝ }
+    ensures { λ x. ⌜ asValue x ≡ getD (valuesAlong (visitedBlock (funcOf (now (func .entry))) p .term .vals) e (visitedBlock (funcOf (now (func .entry))) i .defaults)) j (const 0) ⌝ }
 {
     let from = carries(func, term_kind(func, work, m, p));
     match from {

@@ -22,16 +22,15 @@ use Rattle.work.specs.Layout.{statusesAt, absorbsAt, headsAt, originsEnd}
 use Rattle.work.specs.Aside.{Aside}
 use Rattle.lifting_blocks.specs.Flat.{Status, goes, gone, starts}
 use Rattle.check_text.specs.Same.{Stands}
-use Rattle.terminators.specs.At.{blockAt, pointAt}
+use Rattle.terminators.specs.At.{visitedBlock, pointAt}
 use Rattle.terminators.specs.Edges.{termEdges}
 use Rattle.terminators.specs.declared.TermKind.{TermKind}
 use Rattle.terminators.specs.Kinds.{Known, TermIs, termOf}
-use Rattle.blocks.specs.Absorbs.{absorbs, absorbWord, stands, statusWord, word-gone}
+use Rattle.block_absorbs.specs.Absorbs.{absorbs, absorbWord, stands, statusWord, word-gone}
 use Rattle.blocks.specs.Laid.{Laid, laid-kept}
-use Rattle.emit_edges.specs.Ends.{Edge, edge-entry, edgeFrom, edges-done, edges-step, edgesAt, edgesFrom, edgesOf, endEdges, endsBy, endsHere, listIf}
-use Rattle.emit_edges.specs.Links.{Held, Linked, Unlinked, link-append, link-aside, linkAll, linkAt, linked, linked-all, originWord}
-use Rattle.emit_edges.specs.Aimed.{Aimed, EdgesFit, aimed-checked, edges-fit}
-use Rattle.emit_edges.proofs.Ways.{numberAt}
+use Rattle.emit_edge_ends.specs.Ends.{Edge, edge-entry, edgeFrom, edges-done, edges-step, positionEdges, edgesFrom, edgesFromPosition, endEdges, endsBy, endsHere, listIf}
+use Rattle.emit_edge_ends.specs.Links.{Held, Linked, Unlinked, link-append, link-aside, linkAll, linkAt, linked, linked-all, originWord}
+use Rattle.emit_edge_ends.specs.Aimed.{Aimed, EdgesFit, aimed-checked, edges-fit, numberAt}
 
 -- ---- whether a kept block ends at a position
 
@@ -43,20 +42,20 @@ by-some gone p g h = absurd (h refl)
 by-some starts p g h = refl
 by-some (goes k) p g h = refl
 
-by-glue : (g : Bool) → eqb (absorbWord g) 0 ≡ not g
-by-glue true = ne-eqb 1 0 (λ e. omega arith)
-by-glue false = eq-eqb 0 0 refl
+by-absorb : (g : Bool) → eqb (absorbWord g) 0 ≡ not g
+by-absorb true = ne-eqb 1 0 (λ e. omega arith)
+by-absorb false = eq-eqb 0 0 refl
 
 module _ {w u : List ℕ} {m : ℕ} (k : Laid w u m) (i : ℕ) (h : i < m) where
   pub ends-none : getD u (statusesAt + i) 0 ≡ 0 → false ≡ endsHere (funcOf w) i
   ends-none e =
-      by-none (stands (funcOf w) i) (absorbs (funcOf w) i) (word-gone (stands (funcOf w) i) (pointAt (funcOf w) i) (sym (k .glued .status i h) ∙ e))
+      by-none (stands (funcOf w) i) (absorbs (funcOf w) i) (word-gone (stands (funcOf w) i) (pointAt (funcOf w) i) (sym (k .absorbing .status i h) ∙ e))
 
   pub ends-some : ¬ (getD u (statusesAt + i) 0 ≡ 0) → eqb (getD u (absorbsAt + i) 0) 0 ≡ endsHere (funcOf w) i
   ends-some e =
-      ap (λ (x : ℕ). eqb x 0) (k .glued .absorb i h)
-      ∙ by-glue (absorbs (funcOf w) i)
-      ∙ by-some (stands (funcOf w) i) (pointAt (funcOf w) i) (absorbs (funcOf w) i) (λ z. e (k .glued .status i h ∙ z))
+      ap (λ (x : ℕ). eqb x 0) (k .absorbing .absorb i h)
+      ∙ by-absorb (absorbs (funcOf w) i)
+      ∙ by-some (stands (funcOf w) i) (pointAt (funcOf w) i) (absorbs (funcOf w) i) (λ z. e (k .absorbing .status i h ∙ z))
 
 -- ---- the edges of a way out
 
@@ -68,7 +67,7 @@ pub record Linking (func w : List ℕ) (x : TermKind) (i e : ℕ) (work : List �
   pub room : e + length (termEdges (termOf (funcOf func) x)) ≤ 1024
   pub below : k ≤ length (termEdges (termOf (funcOf func) x))
   pub count : at + k ≡ e + length (termEdges (termOf (funcOf func) x))
-  pub words : work ≡ linkAll (drop k (edgesOf i (termEdges (termOf (funcOf func) x)))) e w
+  pub words : work ≡ linkAll (drop k (edgesFromPosition i (termEdges (termOf (funcOf func) x)))) e w
   pub same : length work ≡ length w
 
 pub linking-first : {func w : List ℕ} {x : TermKind} {i e : ℕ} → Known func x → Aimed (funcOf func) → i < 512
@@ -77,7 +76,7 @@ pub linking-first : {func w : List ℕ} {x : TermKind} {i e : ℕ} → Known fun
 unfolding linkAll
 linking-first {func} {w} {x} {i} {e} n a l r z {k} c =
     let es : List (CfgPoint × ℕ) = termEdges (termOf (funcOf func) x) in
-    let all : k ≡ length (edgesOf i es) = c ∙ sym (length-map es (edgeFrom i)) in
+    let all : k ≡ length (edgesFromPosition i es) = c ∙ sym (length-map es (edgeFrom i)) in
     record {
       known = n;
       aimed = a;
@@ -86,7 +85,7 @@ linking-first {func} {w} {x} {i} {e} n a l r z {k} c =
       room = r;
       below = omega arith;
       count = omega arith;
-      words = sym (ap (λ (l : List Edge). linkAll l e w) (ap (λ (n : ℕ). drop n (edgesOf i es)) all ∙ drop-length (edgesOf i es)));
+      words = sym (ap (λ (l : List Edge). linkAll l e w) (ap (λ (n : ℕ). drop n (edgesFromPosition i es)) all ∙ drop-length (edgesFromPosition i es)));
       same = refl;
     }
 
@@ -101,13 +100,13 @@ module _ {func w : List ℕ} {x : TermKind} {i e : ℕ} {work : List ℕ} {at k 
       let y : ℕ = k - 1 in
       let d : CfgPoint × ℕ = (regionEntry 0, 0) in
       let low : y < length es = omega (arith, f .below) in
-      let inside : y < length (edgesOf i es) = omega (arith, length-map es (edgeFrom i)) in
+      let inside : y < length (edgesFromPosition i es) = omega (arith, length-map es (edgeFrom i)) in
       let back : suc y ≡ k = omega arith in
-      let edge : getD (edgesOf i es) y (edgeFrom i d) ≡ edgeFrom i (getD es y d) = List·getD-map (edgeFrom i) es y d in
-      let cut : drop y (edgesOf i es) ≡ edgeFrom i (getD es y d) ∷ drop k (edgesOf i es) =
-      drop-cons (edgesOf i es) y (edgeFrom i d) inside ∙ ap (λ (z : Edge). z ∷ drop (suc y) (edgesOf i es)) edge
-      ∙ ap (λ (n : ℕ). edgeFrom i (getD es y d) ∷ drop n (edgesOf i es)) back in
-      let number : e + length (drop k (edgesOf i es)) ≡ at = omega (arith, length-drop k (edgesOf i es), length-map es (edgeFrom i), f .count, f .below) in
+      let edge : getD (edgesFromPosition i es) y (edgeFrom i d) ≡ edgeFrom i (getD es y d) = List·getD-map (edgeFrom i) es y d in
+      let cut : drop y (edgesFromPosition i es) ≡ edgeFrom i (getD es y d) ∷ drop k (edgesFromPosition i es) =
+      drop-cons (edgesFromPosition i es) y (edgeFrom i d) inside ∙ ap (λ (z : Edge). z ∷ drop (suc y) (edgesFromPosition i es)) edge
+      ∙ ap (λ (n : ℕ). edgeFrom i (getD es y d) ∷ drop n (edgesFromPosition i es)) back in
+      let number : e + length (drop k (edgesFromPosition i es)) ≡ at = omega (arith, length-drop k (edgesFromPosition i es), length-map es (edgeFrom i), f .count, f .below) in
       let origin : originWord i (getD es y d .1) ≡ originWord i y = ap (originWord i) (edge-entry (termOf (funcOf func) x) y d low) in
       record {
         known = f .known;
@@ -121,30 +120,30 @@ module _ {func w : List ℕ} {x : TermKind} {i e : ℕ} {work : List ℕ} {at k 
             eo
             ∙ ap (λ (n : ℕ). linkAt n (originWord i y) at work) eq
             ∙ ap (linkAt (numberAt es y) (originWord i y) at) (f .words)
-            ∙ ap (λ (n : ℕ). linkAt (numberAt es y) n at (linkAll (drop k (edgesOf i es)) e w)) (sym origin)
-            ∙ ap (λ (n : ℕ). linkAt (numberAt es y) (originWord i (getD es y d .1)) n (linkAll (drop k (edgesOf i es)) e w)) (sym number)
+            ∙ ap (λ (n : ℕ). linkAt (numberAt es y) n at (linkAll (drop k (edgesFromPosition i es)) e w)) (sym origin)
+            ∙ ap (λ (n : ℕ). linkAt (numberAt es y) (originWord i (getD es y d .1)) n (linkAll (drop k (edgesFromPosition i es)) e w)) (sym number)
             ∙ ap (λ (l : List Edge). linkAll l e w) (sym cut);
         same = l ∙ f .same;
       }
 
-  pub linking-done : k ≤ 0 → (work ≡ linkAll (edgesOf i es) e w) × (at ≡ e + length es)
+  pub linking-done : k ≤ 0 → (work ≡ linkAll (edgesFromPosition i es) e w) × (at ≡ e + length es)
   linking-done h =
       let z : k ≡ 0 = omega arith in
-      (f .words ∙ ap (λ (n : ℕ). linkAll (drop n (edgesOf i es)) e w) z, omega (arith, f .count))
+      (f .words ∙ ap (λ (n : ℕ). linkAll (drop n (edgesFromPosition i es)) e w) z, omega (arith, f .count))
 
 -- ---- the edges of a position
 
 module _ (F : Func) (i : ℕ) where
-  pub here-some : {b : Bool} {x : TermKind} → b ≡ endsHere F i → b ≡ true → TermIs F (blockAt F i .term) x → edgesAt F i ≡ edgesOf i (termEdges (termOf F x))
-  unfolding edgesAt endEdges
+  pub here-some : {b : Bool} {x : TermKind} → b ≡ endsHere F i → b ≡ true → TermIs F (visitedBlock F i .term) x → positionEdges F i ≡ edgesFromPosition i (termEdges (termOf F x))
+  unfolding positionEdges endEdges
   here-some e t y =
-      ap (λ (b : Bool). edgesOf i (listIf b (termEdges (blockAt F i .term)))) (sym e ∙ t) ∙ ap (λ (z : Terminator). edgesOf i (termEdges z)) (y .is)
+      ap (λ (b : Bool). edgesFromPosition i (listIf b (termEdges (visitedBlock F i .term)))) (sym e ∙ t) ∙ ap (λ (z : Terminator). edgesFromPosition i (termEdges z)) (y .is)
 
-  pub here-none : {b : Bool} → b ≡ endsHere F i → b ≡ false → edgesAt F i ≡ []
-  unfolding edgesAt endEdges
-  here-none e t = ap (λ (b : Bool). edgesOf i (listIf b (termEdges (blockAt F i .term)))) (sym e ∙ t)
+  pub here-none : {b : Bool} → b ≡ endsHere F i → b ≡ false → positionEdges F i ≡ []
+  unfolding positionEdges endEdges
+  here-none e t = ap (λ (b : Bool). edgesFromPosition i (listIf b (termEdges (visitedBlock F i .term)))) (sym e ∙ t)
 
-  pub here-count : (x : TermKind) → edgesAt F i ≡ edgesOf i (termEdges (termOf F x)) → length (edgesAt F i) ≡ length (termEdges (termOf F x))
+  pub here-count : (x : TermKind) → positionEdges F i ≡ edgesFromPosition i (termEdges (termOf F x)) → length (positionEdges F i) ≡ length (termEdges (termOf F x))
   here-count x e = ap length e ∙ length-map (termEdges (termOf F x)) (edgeFrom i)
 
 -- ---- all positions
@@ -154,7 +153,7 @@ edges-last : (F : Func) (i : ℕ) → i ≤ length (walkOf F) → (k : List Edge
 edges-last F zero h = ([], refl)
 edges-last F (suc i) h =
     let r = edges-last F i (omega arith) in
-    (r .0 ++ edgesAt F i, r .1 ∙ ap (λ (l : List Edge). r .0 ++ l) (edges-step F i (omega arith)) ∙ sym (append-assoc (r .0) (edgesAt F i) (edgesFrom F (suc i))))
+    (r .0 ++ positionEdges F i, r .1 ∙ ap (λ (l : List Edge). r .0 ++ l) (edges-step F i (omega arith)) ∙ sym (append-assoc (r .0) (positionEdges F i) (edgesFrom F (suc i))))
 
 pub record Passing (func w : List ℕ) (m : ℕ) (work : List ℕ) (e i : ℕ) : Type 0 where
   pub laid : Laid func w m
@@ -206,19 +205,19 @@ module _ {func w : List ℕ} {m : ℕ} {work : List ℕ} {e i : ℕ} (f : Passin
   pub passing-aimed : Aimed (funcOf func)
   passing-aimed = aimed-checked F (f .stand .passes .references)
 
-  one-more : 0 < i → edgesFrom F (i - 1) ≡ edgesAt F (i - 1) ++ edgesFrom F i
+  one-more : 0 < i → edgesFrom F (i - 1) ≡ positionEdges F (i - 1) ++ edgesFrom F i
   one-more h =
       let y : suc (i - 1) ≡ i = omega arith in
-      edges-step F (i - 1) (omega (arith, f .below, f .laid .count)) ∙ ap (λ (n : ℕ). edgesAt F (i - 1) ++ edgesFrom F n) y
+      edges-step F (i - 1) (omega (arith, f .below, f .laid .count)) ∙ ap (λ (n : ℕ). positionEdges F (i - 1) ++ edgesFrom F n) y
 
-  pub passing-room : 0 < i → (i - 1 < m) × (e + length (edgesAt (funcOf func) (i - 1)) ≤ 1024)
+  pub passing-room : 0 < i → (i - 1 < m) × (e + length (positionEdges (funcOf func) (i - 1)) ≤ 1024)
   passing-room h = (
     omega (arith, f .below),
     omega
-        (arith, ap length (one-more h), length-append (edgesAt F (i - 1)) (edgesFrom F i), f .count, fit-from (i - 1) (omega (arith, f .below)) .1),
+        (arith, ap length (one-more h), length-append (positionEdges F (i - 1)) (edgesFrom F i), f .count, fit-from (i - 1) (omega (arith, f .below)) .1),
   )
 
-  pub passing-next : 0 < i → {out : List ℕ} → out ≡ linkAll (edgesAt (funcOf func) (i - 1)) e work → {x : ℕ} → x ≡ e + length (edgesAt (funcOf func) (i - 1))
+  pub passing-next : 0 < i → {out : List ℕ} → out ≡ linkAll (positionEdges (funcOf func) (i - 1)) e work → {x : ℕ} → x ≡ e + length (positionEdges (funcOf func) (i - 1))
       → length out ≡ length work → Passing func w m out x (i - 1)
   passing-next h {out} eo {x} ex l =
       let n : 0 + length (edgesFrom F i) ≡ e = omega (arith, f .count) in
@@ -227,12 +226,12 @@ module _ {func w : List ℕ} {m : ℕ} {work : List ℕ} {e i : ℕ} (f : Passin
         stand = f .stand;
         clear = f .clear;
         below = omega (arith, f .below);
-        count = omega (arith, ap length (one-more h), length-append (edgesAt F (i - 1)) (edgesFrom F i), f .count);
+        count = omega (arith, ap length (one-more h), length-append (positionEdges F (i - 1)) (edgesFrom F i), f .count);
         words =
             eo
-            ∙ ap (linkAll (edgesAt F (i - 1)) e) (f .words)
-            ∙ ap (λ (y : ℕ). linkAll (edgesAt F (i - 1)) y (linkAll (edgesFrom F i) 0 w)) (sym n)
-            ∙ sym (link-append (edgesAt F (i - 1)) (edgesFrom F i) 0 w)
+            ∙ ap (linkAll (positionEdges F (i - 1)) e) (f .words)
+            ∙ ap (λ (y : ℕ). linkAll (positionEdges F (i - 1)) y (linkAll (edgesFrom F i) 0 w)) (sym n)
+            ∙ sym (link-append (positionEdges F (i - 1)) (edgesFrom F i) 0 w)
             ∙ ap (λ (l : List Edge). linkAll l 0 w) (sym (one-more h));
         same = l ∙ f .same;
       }

@@ -1,10 +1,7 @@
 // For each point, the edges into it that may carry values into phis: chains in the work slice. A phi has a pair for each kept block with an edge to
 // it, in kept-block order, so one pass over all positions, from the last to the first, links them all.
-mod ends;
-
-use crate::ends::edge_count;
-use crate::ends::edge_target;
-use func_pools::wide;
+use emit_edge_ends::edge_count;
+use emit_edge_ends::edge_target;
 use term_kinds::term_kind;
 use terminators::TermKind;
 use work::ABSORBS;
@@ -12,11 +9,11 @@ use work::HEADS;
 use work::NEXTS;
 use work::ORIGINS;
 use work::STATUSES;
+use work::clear;
 use work::word;
 ghost use mathlib.Core.Path.{_≡_};
-ghost use mathlib.Core.List.{_∷_};
 ghost use Prim.Native.Nat.{_+_, _-_, _≤_, _<_};
-ghost use lib.ListN.{length, getD};
+ghost use lib.ListN.{length};
 ghost use Rattle.func.specs.Decode.{funcOf};
 ghost use Rattle.work.specs.Layout.{headsAt, originsEnd};
 ghost use Rattle.work.specs.Aside.{Aside};
@@ -24,9 +21,9 @@ ghost use Rattle.check_text.specs.Same.{Stands};
 ghost use Rattle.terminators.specs.Edges.{termEdges};
 ghost use Rattle.terminators.specs.Kinds.{Known, termOf};
 ghost use Rattle.blocks.specs.Laid.{Laid};
-ghost use Rattle.emit_edges.specs.Aimed.{Aimed};
-ghost use Rattle.emit_edges.specs.Ends.{edgesAt, edgesOf, endsHere};
-ghost use Rattle.emit_edges.specs.Links.{Chained, Linked, Unlinked, chain, linkAll, linkAt, linked, nextAt, originAt, originWord};
+ghost use Rattle.emit_edge_ends.specs.Aimed.{Aimed};
+ghost use Rattle.emit_edge_ends.specs.Ends.{positionEdges, edgesFromPosition, endsHere};
+ghost use Rattle.emit_edge_ends.specs.Links.{Linked, LinkedFrom, Unlinked, linkAll, linkAt, linked, originWord};
 
 // Edge e, to the point q, from position i along entry k, becomes the first of its point.
 fn link_edge(work: &mut [u32], q: usize, i: usize, k: usize, e: usize)
@@ -44,7 +41,7 @@ fn link_term(func: &[u32], work: &mut [u32], w: TermKind, i: usize, e: usize) ->
     requires { ⌜ Known (now func) w ⌝ }
     requires { ⌜ Aimed (funcOf (now func)) ⌝ }
     requires { ⌜ (i < 512) × (e + length (termEdges (termOf (funcOf (now func)) w)) ≤ 1024) × (originsEnd ≤ length (now work)) ⌝ }
-    ensures { λ _. ⌜ now (work .exit) ≡ linkAll (edgesOf i (termEdges (termOf (funcOf (now (func .entry))) w))) e (now (work .entry)) ⌝ }
+    ensures { λ _. ⌜ now (work .exit) ≡ linkAll (edgesFromPosition i (termEdges (termOf (funcOf (now (func .entry))) w))) e (now (work .entry)) ⌝ }
     ensures { λ x. ⌜ x ≡ e + length (termEdges (termOf (funcOf (now (func .entry))) w)) ⌝ }
     ensures { λ _. ⌜ length (now (work .exit)) ≡ length (now (work .entry)) ⌝ }
 {
@@ -75,9 +72,9 @@ fn block_ends(func: &[u32], work: &[u32], m: usize, i: usize) -> bool
 fn link_at(func: &[u32], work: &mut [u32], m: usize, i: usize, e: usize) -> usize
     requires { ⌜ Laid (now func) (now work) m ⌝ }
     requires { ⌜ Aimed (funcOf (now func)) ⌝ }
-    requires { ⌜ (i < m) × (e + length (edgesAt (funcOf (now func)) i) ≤ 1024) ⌝ }
-    ensures { λ _. ⌜ now (work .exit) ≡ linkAll (edgesAt (funcOf (now (func .entry))) i) e (now (work .entry)) ⌝ }
-    ensures { λ x. ⌜ x ≡ e + length (edgesAt (funcOf (now (func .entry))) i) ⌝ }
+    requires { ⌜ (i < m) × (e + length (positionEdges (funcOf (now func)) i) ≤ 1024) ⌝ }
+    ensures { λ _. ⌜ now (work .exit) ≡ linkAll (positionEdges (funcOf (now (func .entry))) i) e (now (work .entry)) ⌝ }
+    ensures { λ x. ⌜ x ≡ e + length (positionEdges (funcOf (now (func .entry))) i) ⌝ }
     ensures { λ _. ⌜ length (now (work .exit)) ≡ length (now (work .entry)) ⌝ }
 {
     if block_ends(func, work, m, i) {
@@ -87,8 +84,8 @@ fn link_at(func: &[u32], work: &mut [u32], m: usize, i: usize, e: usize) -> usiz
     e
 }
 
-// The edges of all positions are linked, from the last position to the first.
-pub fn link(func: &[u32], work: &mut [u32], m: usize)
+// The edges of all positions are linked, from the last position to the first, where none is.
+fn link_all(func: &[u32], work: &mut [u32], m: usize)
     requires { ⌜ Laid (now func) (now work) m ⌝ }
     requires { ⌜ Stands (funcOf (now func)) (now func) ⌝ }
     requires { ⌜ Unlinked (now work) ⌝ }
@@ -106,41 +103,16 @@ pub fn link(func: &[u32], work: &mut [u32], m: usize)
     }
 }
 
-// The first edge into the point q: 1 + its number, or 0 for none.
-pub fn first_edge(work: &[u32], q: usize) -> usize
-    requires { ⌜ Chained (now work) ⌝ }
-    requires { ⌜ q < 512 ⌝ }
-    ensures { λ h. ⌜ h ≡ getD (now (work .entry)) (headsAt + q) 0 ⌝ }
-    ensures { λ h. ⌜ h ≤ 1024 ⌝ }
+// The edges of all positions are linked.
+pub fn link(func: &[u32], work: &mut [u32], m: usize)
+    requires { ⌜ Laid (now func) (now work) m ⌝ }
+    requires { ⌜ Stands (funcOf (now func)) (now func) ⌝ }
+    ensures { λ _. ⌜ LinkedFrom (funcOf (now (func .entry))) (now (work .entry)) (now (work .exit)) ⌝ }
+    ensures { λ _. ⌜ Linked (funcOf (now (func .entry))) (now (work .exit)) ⌝ }
+    ensures { λ _. ⌜ Laid (now (func .entry)) (now (work .exit)) m ⌝ }
+    ensures { λ _. ⌜ Aside headsAt originsEnd (now (work .entry)) (now (work .exit)) ⌝ }
+    ensures { λ _. ⌜ length (now (work .exit)) ≡ length (now (work .entry)) ⌝ }
 {
-    wide(work[HEADS + q])
-}
-
-// The edge after edge h into the same point.
-pub fn next_edge(work: &[u32], h: usize) -> usize
-    requires { ⌜ Chained (now work) ⌝ }
-    requires { ⌜ (0 < h) × (h ≤ 1024) ⌝ }
-    ensures { λ x. ⌜ x ≡ nextAt (now (work .entry)) (h - 1) ⌝ }
-    ensures { λ x. ⌜ chain (now (work .entry)) h ≡ originAt (now (work .entry)) (h - 1) ∷ chain (now (work .entry)) x ⌝ }
-    ensures { λ x. ⌜ x < h ⌝ }
-{
-    wide(work[NEXTS + (h - 1)])
-}
-
-// The position of the block that edge h comes from.
-pub fn edge_position(work: &[u32], h: usize) -> usize
-    requires { ⌜ Chained (now work) ⌝ }
-    requires { ⌜ (0 < h) × (h ≤ 1024) ⌝ }
-    ensures { λ x. ⌜ x ≡ originAt (now (work .entry)) (h - 1) .0 ⌝ }
-{
-    wide(work[ORIGINS + (h - 1)]) / 1024
-}
-
-// The number of its entry.
-pub fn edge_entry(work: &[u32], h: usize) -> usize
-    requires { ⌜ Chained (now work) ⌝ }
-    requires { ⌜ (0 < h) × (h ≤ 1024) ⌝ }
-    ensures { λ x. ⌜ x ≡ originAt (now (work .entry)) (h - 1) .1 ⌝ }
-{
-    wide(work[ORIGINS + (h - 1)]) % 1024
+    clear(work, HEADS, ORIGINS);
+    link_all(func, work, m);
 }

@@ -25,7 +25,7 @@ ghost use Rattle.lifting.specs.Parts.{nodeOf, nodeValues};
 ghost use Rattle.func.specs.Decode.{firstValue, funcOf};
 ghost use Rattle.func.specs.Tables.{Tables};
 ghost use Rattle.func.specs.Kinds.{asImm, asValue, immFrom};
-ghost use Rattle.emit_lists.specs.Named.{ImmsFit, ValuesFit, immsOf, valuesOf};
+ghost use Rattle.emit_lists.specs.Named.{ImmsFit, ValuesFit, listedImms, valuesOf};
 
 // How many values a list has.
 pub fn value_count(func: &[u32], l: Values) -> usize
@@ -77,7 +77,7 @@ pub fn value_at(func: &[u32], l: Values, k: usize) -> Val
 pub fn imm_count(func: &[u32], l: Imms) -> usize
     requires { ⌜ Tables (now func) ⌝ }
     requires { ⌜ ImmsFit (funcOf (now func)) l ⌝ }
-    ensures { λ x. ⌜ x ≡ length (immsOf (funcOf (now (func .entry))) l) ⌝ }
+    ensures { λ x. ⌜ x ≡ length (listedImms (funcOf (now (func .entry))) l) ⌝ }
     ensures { λ x. ⌜ x ≤ 4095 ⌝ }
 {
     match l {
@@ -93,8 +93,8 @@ pub fn imm_count(func: &[u32], l: Imms) -> usize
 pub fn imm_at(func: &[u32], l: Imms, k: usize) -> Immediate
     requires { ⌜ Tables (now func) ⌝ }
     requires { ⌜ ImmsFit (funcOf (now func)) l ⌝ }
-    requires { ⌜ k < length (immsOf (funcOf (now func)) l) ⌝ }
-    ensures { λ x. ⌜ asImm x ≡ getD (immsOf (funcOf (now (func .entry))) l) k (immFrom 0 0 0) ⌝ }
+    requires { ⌜ k < length (listedImms (funcOf (now func)) l) ⌝ }
+    ensures { λ x. ⌜ asImm x ≡ getD (listedImms (funcOf (now (func .entry))) l) k (immFrom 0 0 0) ⌝ }
 {
     match l {
         Imms::None => Immediate {

@@ -28,10 +28,10 @@ ghost use Rattle.func.specs.Decode.{funcOf};
 ghost use Rattle.general_laws.specs.Members.{All};
 ghost use Rattle.lifting_runs.specs.Refers.{Named};
 ghost use Rattle.walk_points.specs.Numbers.{Small, pointOf};
-ghost use Rattle.terminators.specs.At.{blockAt};
+ghost use Rattle.terminators.specs.At.{visitedBlock};
 ghost use Rattle.terminators.specs.Kinds.{Known, mergeOf, termOf};
 ghost use Rattle.emit_words.specs.Put.{Put};
-ghost use Rattle.emit_insts.specs.Parts.{labelsIn, mergeIn, startIn, termIn};
+ghost use Rattle.emit_insts.specs.Parts.{itemsOfLabels, mergeIn, startIn, termIn};
 ghost use Rattle.emit_insts.specs.Ready.{EmitReady};
 
 // The operand kinds of the immediates that merges carry.
@@ -80,7 +80,7 @@ fn put_merge_label(
     requires { ⌜ EmitReady (now func) (now work) m first ⌝ }
     requires { ⌜ Known (now func) w × All Small (mergeLabels (mergeOf w)) ⌝ }
     requires { ⌜ k < length (mergeLabels (mergeOf w)) ⌝ }
-    ensures { λ r. ⌜ Put (now (out .entry)) c (labelsIn (funcOf (now (func .entry))) first (getD (mergeLabels (mergeOf w)) k (regionEntry 0) ∷ [])) (now (out .exit)) r ⌝ }
+    ensures { λ r. ⌜ Put (now (out .entry)) c (itemsOfLabels (funcOf (now (func .entry))) first (getD (mergeLabels (mergeOf w)) k (regionEntry 0) ∷ [])) (now (out .exit)) r ⌝ }
 {
     put_id(out, c, label_of(work, merge(func, w, k)))
 }
@@ -177,7 +177,7 @@ pub fn put_end(
 ) -> Cursor
     requires { ⌜ EmitReady (now func) (now work) m first ⌝ }
     requires { ⌜ i < m ⌝ }
-    ensures { λ r. ⌜ Put (now (out .entry)) c (mergeIn (funcOf (now (func .entry))) first (blockAt (funcOf (now (func .entry))) i .term .merge) ++ termIn (funcOf (now (func .entry))) first (blockAt (funcOf (now (func .entry))) i .term)) (now (out .exit)) r ⌝ }
+    ensures { λ r. ⌜ Put (now (out .entry)) c (mergeIn (funcOf (now (func .entry))) first (visitedBlock (funcOf (now (func .entry))) i .term .merge) ++ termIn (funcOf (now (func .entry))) first (visitedBlock (funcOf (now (func .entry))) i .term)) (now (out .exit)) r ⌝ }
 {
     let w = term_kind(func, work, m, i);
     let a = put_merge(func, work, out, c, m, first, w);

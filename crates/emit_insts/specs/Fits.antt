@@ -1,7 +1,7 @@
 -- What the visited points of a text name is there: labels are points of the walk, values and ops are those of the text. Assumes nothing.
 --     merges-small, targets-small    labels have small numbers
 --     ins-named                      the inputs of a way out name something
---     node-ops                       a node's ops are ops of the text
+--     node-ops-low                       a node's ops are ops of the text
 --     ops-at                         the ops of a visited point
 use mathlib.Core.Path.{_≡_, refl, sym, ap, subst, _∙_}
 use mathlib.Core.Bool.{Bool, true, false}
@@ -20,20 +20,20 @@ use Rattle.general_laws.specs.Tests.{all-split, in-at}
 use Rattle.lifting_runs.specs.Refers.{Named, Refers}
 use Rattle.walk_points.specs.Numbers.{Small}
 use Rattle.walk_points.specs.Walk.{Walkable}
-use Rattle.terminators.specs.At.{block-is, blockAt, blockOf, placeIn, pointAt}
+use Rattle.terminators.specs.At.{block-is, visitedBlock, blockOf, placeIn, pointAt}
 use Rattle.terminators.specs.Visited.{Visited, label-small}
 
 module _ {w u : List ℕ} {m : ℕ} (k : Visited w u m) (i : ℕ) (h : i < m) where
-  pub merges-small : All Small (mergeLabels (blockAt (funcOf w) i .term .merge))
-  merges-small = all-from Small (mergeLabels (blockAt (funcOf w) i .term .merge)) (λ q z. label-small k i h q (in-left (blockAt (funcOf w) i .term .targets) z))
+  pub merges-small : All Small (mergeLabels (visitedBlock (funcOf w) i .term .merge))
+  merges-small = all-from Small (mergeLabels (visitedBlock (funcOf w) i .term .merge)) (λ q z. label-small k i h q (in-left (visitedBlock (funcOf w) i .term .targets) z))
 
-  pub targets-small : All Small (blockAt (funcOf w) i .term .targets)
-  targets-small = all-from Small (blockAt (funcOf w) i .term .targets) (λ q z. label-small k i h q (in-right (mergeLabels (blockAt (funcOf w) i .term .merge)) z))
+  pub targets-small : All Small (visitedBlock (funcOf w) i .term .targets)
+  targets-small = all-from Small (visitedBlock (funcOf w) i .term .targets) (λ q z. label-small k i h q (in-right (mergeLabels (visitedBlock (funcOf w) i .term .merge)) z))
 
 module _ (F : Func) (refs : Refers F) where
   root-named : (o : Option ControlInst) (r : ℕ) → ctrlOf F r ≡ o → All (Named F) (rootTerm F o r .ins)
-  root-named none r e = refs .outs-named r
-  root-named (some c) r e = all-split (Named F) (c .ins) _ (refs .ctrl-named r e) .0
+  root-named none r e = refs .named .outs r
+  root-named (some c) r e = all-split (Named F) (c .ins) _ (refs .named .ctrl r e) .0
 
   loop-named : (b : Bool) (n : ℕ) (c : Value) (vs : List Value) → Named F c → All (Named F) (loopTerm F b n c vs .ins)
   loop-named true n c vs h = tt
@@ -47,7 +47,7 @@ module _ (F : Func) (refs : Refers F) where
 
   exit-named : (r : ℕ) (p : Place) → All (Named F) (exitTerm F r p .ins)
   exit-named r top = root-named (ctrlOf F r) r refl
-  exit-named r (inNode n) = child-named (nodeOf F n) n (regionOf F r .outs) (refs .node-named n)
+  exit-named r (inNode n) = child-named (nodeOf F n) n (regionOf F r .outs) (refs .named .node n)
 
   in-named : (d : Node) (n : ℕ) → All (Named F) (nodeValues d) → All (Named F) (inBlock F d n .term .ins)
   in-named (block is) n h = tt
@@ -58,15 +58,15 @@ module _ (F : Func) (refs : Refers F) where
   block-named : (p q : CfgPoint) → All (Named F) (blockOf F p q .term .ins)
   block-named (regionEntry r) q = tt
   block-named (regionExit r) q = exit-named r (placeIn F r)
-  block-named (nodeEntry n) q = in-named (nodeOf F n) n (refs .node-named n)
+  block-named (nodeEntry n) q = in-named (nodeOf F n) n (refs .named .node n)
   block-named (nodeExit n) q = tt
 
-  pub ins-named : Walkable F → (i : ℕ) → i < length (walkOf F) → All (Named F) (blockAt F i .term .ins)
+  pub ins-named : Walkable F → (i : ℕ) → i < length (walkOf F) → All (Named F) (visitedBlock F i .term .ins)
   ins-named ok i h = subst (λ b. All (Named F) (b .term .ins)) (sym (block-is F ok i h)) (block-named (pointAt F i) (pointAt F (suc i)))
 
-  pub node-ops : (n o : ℕ) → In o (blockOps (nodeOf F n)) → o < length (F .ops)
+  pub node-ops-low : (n o : ℕ) → In o (blockOps (nodeOf F n)) → o < length (F .ops)
   unfolding opList
-  node-ops n o z = all-in _ (opList F) (refs .ops-below) o (in-at blockOps (F .nodes) (block []) refl n z)
+  node-ops-low n o z = all-in _ (opList F) (refs .ops-below) o (in-at blockOps (F .nodes) (block []) refl n z)
 
 -- the ops of a point: those of a node at its entry
 abbrev pub opsOf : Func → CfgPoint → List ℕ
@@ -87,5 +87,5 @@ block-ops F (regionExit r) q = refl
 block-ops F (nodeEntry n) q = in-ops F (nodeOf F n) n
 block-ops F (nodeExit n) q = refl
 
-pub ops-at : (F : Func) → Walkable F → (i : ℕ) → i < length (walkOf F) → blockAt F i .ops ≡ opsOf F (pointAt F i)
+pub ops-at : (F : Func) → Walkable F → (i : ℕ) → i < length (walkOf F) → visitedBlock F i .ops ≡ opsOf F (pointAt F i)
 ops-at F ok i h = ap (λ b. b .ops) (block-is F ok i h) ∙ block-ops F (pointAt F i) (pointAt F (suc i))

@@ -17,7 +17,7 @@ use Rattle.lifting.specs.Walk.{walkOf}
 use Rattle.lifting.specs.Absorb.{kept, mergeLabels}
 use Rattle.lifting.specs.Ids.{idOf, labelOf}
 use Rattle.lifting.specs.Instructions.{Instruction, bare, labelInst, loopControl, mergeInsts, opImms, opInst, opOpcode, pairs, phiInst, resultId, selectionControl, short, termImms, termInst, termOpcode}
-use Rattle.lifting.specs.Words.{immWords}
+use Rattle.lifting.specs.Words.{immsWords}
 use Rattle.lifting_blocks.specs.Flat.{upTo}
 use Rattle.terminators.specs.Kinds.{mergeControl}
 use Rattle.emit_words.specs.Put.{Item, id, word}
@@ -51,7 +51,7 @@ front-same n eo ea et er el = cc
 abbrev pub idEach : {A : Type 0} → (A → ℕ) → List A → List Item
 idEach f l = gather (λ x. id (f x) ∷ []) l
 
-imms-each : (l : List Imm) → map word (immWords l) ≡ gather immItems l
+imms-each : (l : List Imm) → map word (immsWords l) ≡ gather immItems l
 imms-each [] = refl
 imms-each (m ∷ l) = ap (λ (t : List Item). word (m .kind) ∷ word (m .operand) ∷ word (m .word) ∷ t) (imms-each l)
 
@@ -155,11 +155,11 @@ module _ (F : Func) (first : ℕ) (T K : Table) where
 -- ---- by a function's own walk
 
 module _ (F : Func) (first : ℕ) where
-  abbrev pub valuesIn : List Value → List Item
-  valuesIn vs = valueItems F first (walkOf F) (kept (walkOf F)) vs
+  abbrev pub itemsOfValues : List Value → List Item
+  itemsOfValues vs = valueItems F first (walkOf F) (kept (walkOf F)) vs
 
-  abbrev pub labelsIn : List CfgPoint → List Item
-  labelsIn ps = labelItems F first (walkOf F) (kept (walkOf F)) ps
+  abbrev pub itemsOfLabels : List CfgPoint → List Item
+  itemsOfLabels ps = labelItems F first (walkOf F) (kept (walkOf F)) ps
 
   abbrev pub opIn : ℕ → List Item
   opIn i = instItems (opInst F first (walkOf F) (kept (walkOf F)) i)

@@ -3,9 +3,9 @@ use emit_elements::imm_at;
 use emit_elements::imm_count;
 use emit_elements::value_at;
 use emit_elements::value_count;
-use emit_ids::value_id;
 use emit_lists::Imms;
 use emit_lists::Values;
+use emit_value_ids::value_id;
 use emit_words::Cursor;
 use emit_words::put_head;
 use emit_words::put_id;
@@ -30,11 +30,11 @@ ghost use Rattle.work.specs.Layout.{labelIdsAt, workNeed};
 ghost use Rattle.general_laws.specs.Members.{All};
 ghost use Rattle.lifting_runs.specs.Refers.{Named};
 ghost use Rattle.walk_points.specs.Numbers.{Small};
-ghost use Rattle.emit_ids.specs.Ids.{idIn};
+ghost use Rattle.emit_names.specs.Ids.{idIn};
 ghost use Rattle.terminators.specs.Kinds.{Known, termOf};
 ghost use Rattle.emit_words.specs.Put.{Put};
-ghost use Rattle.emit_lists.specs.Named.{ImmsFit, ValuesFit, immsOf, valuesOf};
-ghost use Rattle.emit_insts.specs.Parts.{frontItems, immItems, labelsIn, valuesIn};
+ghost use Rattle.emit_lists.specs.Named.{ImmsFit, ValuesFit, listedImms, valuesOf};
+ghost use Rattle.emit_insts.specs.Parts.{frontItems, immItems, itemsOfLabels, itemsOfValues};
 ghost use Rattle.emit_insts.specs.Ready.{EmitReady};
 
 // Appends an immediate.
@@ -50,7 +50,7 @@ fn put_imm(out: &mut [u32], c: Cursor, m: Immediate) -> Cursor
 fn put_imms(func: &[u32], out: &mut [u32], c: Cursor, l: Imms) -> Cursor
     requires { ⌜ Tables (now func) ⌝ }
     requires { ⌜ ImmsFit (funcOf (now func)) l ⌝ }
-    ensures { λ r. ⌜ Put (now (out .entry)) c (gather immItems (immsOf (funcOf (now (func .entry))) l)) (now (out .exit)) r ⌝ }
+    ensures { λ r. ⌜ Put (now (out .entry)) c (gather immItems (listedImms (funcOf (now (func .entry))) l)) (now (out .exit)) r ⌝ }
 {
     let n = imm_count(func, l);
     let mut d = c;
@@ -77,7 +77,7 @@ pub fn put_front(
     requires { ⌜ Tables (now func) ⌝ }
     requires { ⌜ ImmsFit (funcOf (now func)) imms ⌝ }
     requires { ⌜ ids ≤ 65535 ⌝ }
-    ensures { λ r. ⌜ Put (now (out .entry)) c (frontItems opcode attrs ty result (immsOf (funcOf (now (func .entry))) imms) ids) (now (out .exit)) r ⌝ }
+    ensures { λ r. ⌜ Put (now (out .entry)) c (frontItems opcode attrs ty result (listedImms (funcOf (now (func .entry))) imms) ids) (now (out .exit)) r ⌝ }
 {
     let a = put_head(
         out,
@@ -115,7 +115,7 @@ pub fn put_values(
     requires { ⌜ EmitReady (now func) (now work) m first ⌝ }
     requires { ⌜ 0 < m ⌝ }
     requires { ⌜ ValuesFit (funcOf (now func)) l × All (Named (funcOf (now func))) (valuesOf (funcOf (now func)) l) ⌝ }
-    ensures { λ r. ⌜ Put (now (out .entry)) c (valuesIn (funcOf (now (func .entry))) first (valuesOf (funcOf (now (func .entry))) l)) (now (out .exit)) r ⌝ }
+    ensures { λ r. ⌜ Put (now (out .entry)) c (itemsOfValues (funcOf (now (func .entry))) first (valuesOf (funcOf (now (func .entry))) l)) (now (out .exit)) r ⌝ }
 {
     let n = value_count(func, l);
     let mut d = c;
@@ -147,7 +147,7 @@ pub fn put_targets(
 ) -> Cursor
     requires { ⌜ EmitReady (now func) (now work) m first ⌝ }
     requires { ⌜ Known (now func) w × All Small (termOf (funcOf (now func)) w .targets) ⌝ }
-    ensures { λ r. ⌜ Put (now (out .entry)) c (labelsIn (funcOf (now (func .entry))) first (termOf (funcOf (now (func .entry))) w .targets)) (now (out .exit)) r ⌝ }
+    ensures { λ r. ⌜ Put (now (out .entry)) c (itemsOfLabels (funcOf (now (func .entry))) first (termOf (funcOf (now (func .entry))) w .targets)) (now (out .exit)) r ⌝ }
 {
     let n = targets(func, w);
     let mut d = c;

@@ -2,24 +2,16 @@
 use mathlib.Core.Path.{_≡_, refl}
 use mathlib.Core.Bool.{Bool, true, false}
 use mathlib.Core.List.{List, [], _∷_}
-use Prim.Native.Nat.{ℕ, _≤_}
 use native.Mathlib.Omega.{arith}
-use lib.Dec.{lit<}
 use lib.ListN.{length}
 use Rattle.lifting.specs.Ast.{Region}
 use Rattle.lifting.specs.Points.{CfgPoint}
-use Rattle.func.specs.Layout.{params}
-use Rattle.func.specs.Decode.{funcOf}
-use Rattle.func.specs.Tables.{Tables, param-total}
 use Rattle.lifting_blocks.specs.Flat.{Status, goes, gone, starts}
-use Rattle.blocks.specs.Absorbs.{absorbWord}
+use Rattle.block_absorbs.specs.Absorbs.{absorbWord}
 
 pub no-regions : (rs : List Region) → length rs ≡ 0 → rs ≡ []
 no-regions [] e = refl
 no-regions (r ∷ rs) e = absurd (omega arith)
-
-pub few-params : {w : List ℕ} → Tables w → length (funcOf w .params) ≤ 64
-few-params t = omega (arith, param-total t, t .counts params (lit< tt))
 
 pub absorbs-true : (b : Bool) → absorbWord b ≡ 1 → b ≡ true
 absorbs-true true e = refl

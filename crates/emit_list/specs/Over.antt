@@ -10,7 +10,7 @@ use Rattle.lifting.specs.Parts.{hasBody}
 use Rattle.func.specs.Decode.{funcOf}
 use Rattle.lifting_runs.specs.Shaped.{Shaped, shaped-checked}
 use Rattle.check_text.specs.Same.{Passes}
-use Rattle.emit_edges.specs.Links.{Linked}
+use Rattle.emit_edge_ends.specs.Links.{Linked}
 use Rattle.emit_insts.specs.Ready.{EmitReady}
 
 pub record Over (w u : List ℕ) (m first : ℕ) : Type 0 where

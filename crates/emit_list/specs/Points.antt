@@ -1,6 +1,6 @@
 -- What each visited point writes: a block's label and phis where one starts, the ops, and the merge and way out where it ends. Assumes nothing.
 --     items-gone, items-starts, items-goes    by where the point stands
---     head-is, param-is, params-are, last-is  function, parameters, function end
+--     head-is, param-items, params-are, last-is  function, parameters, function end
 --     list-is                                 the whole list, point by point
 use mathlib.Core.Path.{_≡_, refl, sym, ap, ap₂, _∙_}
 use mathlib.Core.Bool.{Bool, true, false}
@@ -17,18 +17,18 @@ use Rattle.lifting.specs.Points.{BlockLifting, CfgPoint, Table, Terminator}
 use Rattle.lifting.specs.Walk.{walkOf}
 use Rattle.lifting.specs.Absorb.{absorb, kept, useCount}
 use Rattle.lifting.specs.Instructions.{Instruction, blockInsts, endInst, functionControl, functionInst, instructions, labelInst, listOf, mergeInsts, opInst, paramInst, paramInsts, phiInsts, short, termInst}
-use Rattle.lifting_blocks.specs.Flat.{Status, goes, gone, noPair, part, partAt, starts, unlessAbsorbs, upTo}
+use Rattle.lifting_blocks.specs.Flat.{Status, goes, gone, noPair, passPart, partAt, starts, unlessAbsorbs, upTo}
 use Rattle.lifting_blocks.specs.FlatLaws.{gather-upTo, upTo-same}
 use Rattle.lifting_blocks.specs.ListFlat.{writing}
 use Rattle.lifting_blocks.specs.Laws as flat
 use Rattle.general_laws.specs.Gather.{gather-append}
 use Rattle.lifting_runs.specs.Shaped.{Shaped}
 use Rattle.lifting_runs.specs.EveryText.{walk-none}
-use Rattle.terminators.specs.At.{blockAt, pointAt}
-use Rattle.blocks.specs.Absorbs.{absorbs, stands}
+use Rattle.terminators.specs.At.{visitedBlock, pointAt}
+use Rattle.block_absorbs.specs.Absorbs.{absorbs, stands}
 use Rattle.lifting.specs.Ids.{idOf}
 use Rattle.func.specs.Tables.{paramOf}
-use Rattle.emit_ids.specs.Later.{function-id, param-id}
+use Rattle.emit_value_ids.specs.Later.{function-id, param-id}
 use Rattle.emit_words.specs.Put.{Item, id}
 use Rattle.emit_words.specs.Items.{instItems, listItems}
 use Rattle.emit_insts.specs.Parts.{front-same, frontItems, inst-front, mergeIn, opIn, startIn, termIn, upTo-front}
@@ -53,8 +53,8 @@ module _ (F : Func) (first : ℕ) where
   K = kept (walkOf F)
 
   -- the phis of a block
-  abbrev pub phisIn : CfgPoint → List Value → List Decl → List Item
-  phisIn p ks ds = listItems (phiInsts F first T K p ks ds 0)
+  abbrev pub phiItems : CfgPoint → List Value → List Decl → List Item
+  phiItems p ks ds = listItems (phiInsts F first T K p ks ds 0)
 
   -- a block's end, unless the point absorbs the next one
   abbrev pub endIf : Bool → Terminator → List Item
@@ -65,11 +65,11 @@ module _ (F : Func) (first : ℕ) where
   abbrev pub pointItems : ℕ → List Item
   pointItems i = listItems (partAt (useCount T) (writing F first T K) T i)
 
-  abbrev pub opsAt : ℕ → List Item
-  opsAt i = gather (opIn F first) (blockAt F i .ops)
+  abbrev pub opItemsAt : ℕ → List Item
+  opItemsAt i = gather (opIn F first) (visitedBlock F i .ops)
 
   abbrev pub endAt : ℕ → List Item
-  endAt i = endIf (absorbs F i) (blockAt F i .term)
+  endAt i = endIf (absorbs F i) (visitedBlock F i .term)
 
   ops-items : (is : List ℕ) → listItems (gather (λ i. opInst F first T K i ∷ []) is) ≡ gather (opIn F first) is
   unfolding listItems
@@ -87,33 +87,33 @@ module _ (F : Func) (first : ℕ) where
   body-items g p x =
       list-append (gather (writing F first T K .op) (x .ops)) _ ∙ ap₂ (λ (a b : List Item). a ++ b) (ops-items (x .ops)) (end-items g p (x .term))
 
-  by-gone : (s : Status) (g : Bool) (x : CfgPoint × BlockLifting) → s ≡ gone → listItems (part (writing F first T K) s g x) ≡ []
-  unfolding part listItems
-  by-gone s g x e = ap (λ (t : Status). listItems (part (writing F first T K) t g x)) e
+  by-gone : (s : Status) (g : Bool) (x : CfgPoint × BlockLifting) → s ≡ gone → listItems (passPart (writing F first T K) s g x) ≡ []
+  unfolding passPart listItems
+  by-gone s g x e = ap (λ (t : Status). listItems (passPart (writing F first T K) t g x)) e
 
   by-starts : (s : Status) (g : Bool) (x : CfgPoint × BlockLifting) → s ≡ starts
-      → listItems (part (writing F first T K) s g x) ≡ (startIn F first (x .0) ++ phisIn (x .0) (x .1 .keys) (x .1 .decls)) ++ (gather (opIn F first) (x .1 .ops) ++ endIf g (x .1 .term))
-  unfolding part
+      → listItems (passPart (writing F first T K) s g x) ≡ (startIn F first (x .0) ++ phiItems (x .0) (x .1 .keys) (x .1 .decls)) ++ (gather (opIn F first) (x .1 .ops) ++ endIf g (x .1 .term))
+  unfolding passPart
   by-starts s g x e =
-      ap (λ (t : Status). listItems (part (writing F first T K) t g x)) e
+      ap (λ (t : Status). listItems (passPart (writing F first T K) t g x)) e
       ∙ list-append (labelInst F first T K (x .0) ∷ phiInsts F first T K (x .0) (x .1 .keys) (x .1 .decls) 0) _
       ∙ ap₂ (λ (a b : List Item). a ++ b) (list-one (labelInst F first T K (x .0)) _) (body-items g (x .0) (x .1))
 
   by-goes : (s : Status) (h : CfgPoint) (g : Bool) (x : CfgPoint × BlockLifting) → s ≡ goes h
-      → listItems (part (writing F first T K) s g x) ≡ gather (opIn F first) (x .1 .ops) ++ endIf g (x .1 .term)
-  unfolding part
-  by-goes s h g x e = ap (λ (t : Status). listItems (part (writing F first T K) t g x)) e ∙ body-items g h (x .1)
+      → listItems (passPart (writing F first T K) s g x) ≡ gather (opIn F first) (x .1 .ops) ++ endIf g (x .1 .term)
+  unfolding passPart
+  by-goes s h g x e = ap (λ (t : Status). listItems (passPart (writing F first T K) t g x)) e ∙ body-items g h (x .1)
 
   pub items-gone : (i : ℕ) → stands F i ≡ gone → pointItems i ≡ []
   unfolding partAt
   items-gone i e = by-gone (stands F i) (absorbs F i) (getD T i noPair) e
 
   pub items-starts : (i : ℕ) → stands F i ≡ starts
-      → pointItems i ≡ (startIn F first (pointAt F i) ++ phisIn (pointAt F i) (blockAt F i .keys) (blockAt F i .decls)) ++ (opsAt i ++ endAt i)
+      → pointItems i ≡ (startIn F first (pointAt F i) ++ phiItems (pointAt F i) (visitedBlock F i .keys) (visitedBlock F i .decls)) ++ (opItemsAt i ++ endAt i)
   unfolding partAt
   items-starts i e = by-starts (stands F i) (absorbs F i) (getD T i noPair) e
 
-  pub items-goes : (i : ℕ) {h : CfgPoint} → stands F i ≡ goes h → pointItems i ≡ opsAt i ++ endAt i
+  pub items-goes : (i : ℕ) {h : CfgPoint} → stands F i ≡ goes h → pointItems i ≡ opItemsAt i ++ endAt i
   unfolding partAt
   items-goes i {h} e = by-goes (stands F i) h (absorbs F i) (getD T i noPair) e
 
@@ -122,8 +122,8 @@ module _ (F : Func) (first : ℕ) where
   abbrev pub headIn : List Item
   headIn = instItems (functionInst F first T K)
 
-  abbrev pub paramsIn : List Item
-  paramsIn = listItems (paramInsts F first T K (F .params) 0)
+  abbrev pub paramItems : List Item
+  paramItems = listItems (paramInsts F first T K (F .params) 0)
 
   abbrev pub lastIn : List Item
   lastIn = instItems (endInst F first T K)
@@ -141,10 +141,10 @@ module _ (F : Func) (first : ℕ) where
   abbrev pub paramIn : ℕ → List Item
   paramIn i = instItems (paramInst F first T K (paramOf F i) i)
 
-  pub param-is : (i : ℕ) → i < length (F .params) → (a t r : ℕ) → a ≡ paramOf F i .attrs → t ≡ paramOf F i .type → r ≡ first + 1 + i
+  pub param-items : (i : ℕ) → i < length (F .params) → (a t r : ℕ) → a ≡ paramOf F i .attrs → t ≡ paramOf F i .type → r ≡ first + 1 + i
       → frontItems (opcodeOf FunctionParameter) a t r [] 0 ≡ paramIn i
   unfolding paramInst idOf
-  param-is i h a t r ea et er =
+  param-items i h a t r ea et er =
       front-same 0 refl ea et (er ∙ sym (param-id F first i h)) refl ∙ sym (inst-front (paramInst F first T K (paramOf F i) i) ∙ append-nil _)
 
   params-from : (ds : List Decl) (k : ℕ)
@@ -158,7 +158,7 @@ module _ (F : Func) (first : ℕ) where
       (upTo-same (λ i. g (suc i)) _ (λ i. ap (λ (n : ℕ). instItems (paramInst F first T K (getD ds i (record { attrs = 0; type = 0 })) n)) (add-suc k i ∙ sym (suc-add k i))) (length ds)
       ∙ params-from ds (suc k))
 
-  pub params-are : upTo paramIn (length (F .params)) ≡ paramsIn
+  pub params-are : upTo paramIn (length (F .params)) ≡ paramItems
   params-are = upTo-same paramIn _ (λ i. ap (λ (n : ℕ). instItems (paramInst F first T K (paramOf F i) n)) (sym (zero-add i))) (length (F .params)) ∙ params-from (F .params) 0
 
   list-upTo : (f : ℕ → List Instruction) (n : ℕ) → listItems (upTo f n) ≡ upTo (λ i. listItems (f i)) n
@@ -176,12 +176,12 @@ module _ (F : Func) (first : ℕ) where
       go [] e = no-insts T (walk-none F e)
       go (r ∷ rs) e = let s = ok (ap hasBody e) in ap listItems (flat.instructions-are F s first) ∙ list-upTo _ (length T)
 
-  pub list-is : ((hasBody (F .regions) ≡ true) → Shaped F) → listItems (listOf F first) ≡ headIn ++ (paramsIn ++ (upTo pointItems (length T) ++ lastIn))
+  pub list-is : ((hasBody (F .regions) ≡ true) → Shaped F) → listItems (listOf F first) ≡ headIn ++ (paramItems ++ (upTo pointItems (length T) ++ lastIn))
   unfolding listOf instructions
   list-is ok =
       list-one (functionInst F first T K) _
       ∙ ap (λ (l : List Item). headIn ++ l)
       (list-append (paramInsts F first T K (F .params) 0) (blockInsts F first T K K ++ (endInst F first T K ∷ []))
-      ∙ ap (λ (l : List Item). paramsIn ++ l)
+      ∙ ap (λ (l : List Item). paramItems ++ l)
       (list-append (blockInsts F first T K K) (endInst F first T K ∷ [])
       ∙ ap₂ (λ (a b : List Item). a ++ b) (blocks-are ok) (list-last (endInst F first T K))))

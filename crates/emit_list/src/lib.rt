@@ -30,12 +30,12 @@ ghost use Rattle.lifting.specs.Instructions.{listOf};
 ghost use Rattle.func.specs.Decode.{funcOf};
 ghost use Rattle.func.specs.Tables.{Tables};
 ghost use Rattle.lifting_blocks.specs.Flat.{starts, upTo};
-ghost use Rattle.terminators.specs.At.{blockAt, pointAt};
-ghost use Rattle.blocks.specs.Absorbs.{stands};
+ghost use Rattle.terminators.specs.At.{visitedBlock, pointAt};
+ghost use Rattle.block_absorbs.specs.Absorbs.{stands};
 ghost use Rattle.emit_words.specs.Put.{Put};
 ghost use Rattle.emit_words.specs.Items.{listItems};
 ghost use Rattle.emit_insts.specs.Parts.{startIn};
-ghost use Rattle.emit_list.specs.Points.{endAt, headIn, lastIn, opsAt, paramIn, paramsIn, phisIn, pointItems};
+ghost use Rattle.emit_list.specs.Points.{endAt, headIn, lastIn, opItemsAt, paramIn, paramItems, phiItems, pointItems};
 ghost use Rattle.emit_list.specs.Over.{Over};
 
 // The operand kind of the function's control word.
@@ -89,7 +89,7 @@ fn put_param(func: &[u32], out: &mut [u32], c: Cursor, first: u32, i: usize) -> 
 fn put_params(func: &[u32], out: &mut [u32], c: Cursor, first: u32) -> Cursor
     requires { ⌜ Tables (now func) ⌝ }
     requires { ⌜ first ≤ highestId ⌝ }
-    ensures { λ r. ⌜ Put (now (out .entry)) c (paramsIn (funcOf (now (func .entry))) first) (now (out .exit)) r ⌝ }
+    ensures { λ r. ⌜ Put (now (out .entry)) c (paramItems (funcOf (now (func .entry))) first) (now (out .exit)) r ⌝ }
 {
     let n = param_total(func);
     let mut d = c;
@@ -131,7 +131,7 @@ fn put_start(
 ) -> Cursor
     requires { ⌜ Over (now func) (now work) m first ⌝ }
     requires { ⌜ (i < m) × (stands (funcOf (now func)) i ≡ starts) ⌝ }
-    ensures { λ r. ⌜ Put (now (out .entry)) c (startIn (funcOf (now (func .entry))) first (pointAt (funcOf (now (func .entry))) i) ++ phisIn (funcOf (now (func .entry))) first (pointAt (funcOf (now (func .entry))) i) (blockAt (funcOf (now (func .entry))) i .keys) (blockAt (funcOf (now (func .entry))) i .decls)) (now (out .exit)) r ⌝ }
+    ensures { λ r. ⌜ Put (now (out .entry)) c (startIn (funcOf (now (func .entry))) first (pointAt (funcOf (now (func .entry))) i) ++ phiItems (funcOf (now (func .entry))) first (pointAt (funcOf (now (func .entry))) i) (visitedBlock (funcOf (now (func .entry))) i .keys) (visitedBlock (funcOf (now (func .entry))) i .decls)) (now (out .exit)) r ⌝ }
 {
     let q = number(work, POINTS, i);
     let a = put_label(func, work, out, c, m, first, q);
@@ -150,7 +150,7 @@ fn put_rest(
 ) -> Cursor
     requires { ⌜ Over (now func) (now work) m first ⌝ }
     requires { ⌜ i < m ⌝ }
-    ensures { λ r. ⌜ Put (now (out .entry)) c (opsAt (funcOf (now (func .entry))) first i ++ endAt (funcOf (now (func .entry))) first i) (now (out .exit)) r ⌝ }
+    ensures { λ r. ⌜ Put (now (out .entry)) c (opItemsAt (funcOf (now (func .entry))) first i ++ endAt (funcOf (now (func .entry))) first i) (now (out .exit)) r ⌝ }
 {
     let a = put_ops(func, work, out, c, m, first, i);
     if word(work, ABSORBS, i) == 1 {

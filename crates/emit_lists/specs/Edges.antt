@@ -15,10 +15,10 @@ use Rattle.lifting.specs.Parts.{childrenOf, nodeOf, nodeValues, outsOf, regionO
 use Rattle.lifting.specs.Points.{BlockLifting, CfgPoint, Terminator, nodeEntry, nodeExit, regionEntry}
 use Rattle.lifting.specs.Walk.{Place, entryDecls, entryKeys, inBlock, inNode, someVals, top}
 use Rattle.func.specs.Decode.{funcOf}
-use Rattle.func.specs.Tables.{ctrlLine, list-count, node-values}
+use Rattle.func.specs.Tables.{ctrlLineOf, list-count, node-values}
 use Rattle.func.specs.Kinds.{declFrom}
 use Rattle.general_laws.specs.Members.{length-tabulate}
-use Rattle.terminators.specs.At.{blockAt, blockOf, placeIn, pointAt}
+use Rattle.terminators.specs.At.{visitedBlock, blockOf, placeIn, pointAt}
 use Rattle.terminators.specs.Visited.{Visited}
 use Rattle.terminators.specs.declared.TermKind.{TermKind}
 use Rattle.terminators.specs.Edges.{valuesAlong}
@@ -27,7 +27,7 @@ use Rattle.terminators.specs.Laws.{block-of, loop-child, loop-keys, of-text, ou
 use Rattle.emit_lists.specs.declared.Carried.{Carried}
 use Rattle.emit_lists.specs.declared.Carried.the-variants.{Entries, Outputs, Defaults}
 use Rattle.emit_lists.specs.Phis.{Carries, CarriedFits, OutsCarried, carriedValues}
-use Rattle.emit_lists.specs.Laws.{back}
+use Rattle.emit_lists.specs.Laws.{list-back}
 
 -- ---- what an entry says of its phis
 
@@ -83,21 +83,21 @@ module _ {w u : List ℕ} {m : ℕ} (k : Visited w u m) (i : ℕ) (h : i < m) (j
 
   -- from the block of the point p
   module _ {p : CfgPoint} (e : p ≡ pointAt F i) where
-    pub decl-here : {d : Decl} → d ≡ declAt (blockOf F p (pointAt F (suc i))) → d ≡ declAt (blockAt F i)
-    decl-here = back declAt (block-of k i h e)
+    pub decl-here : {d : Decl} → d ≡ declAt (blockOf F p (pointAt F (suc i))) → d ≡ declAt (visitedBlock F i)
+    decl-here = list-back declAt (block-of k i h e)
 
-    pub default-here : {v : Value} → v ≡ defaultAt (blockOf F p (pointAt F (suc i))) → v ≡ defaultAt (blockAt F i)
-    default-here = back defaultAt (block-of k i h e)
+    pub default-here : {v : Value} → v ≡ defaultAt (blockOf F p (pointAt F (suc i))) → v ≡ defaultAt (visitedBlock F i)
+    default-here = list-back defaultAt (block-of k i h e)
 
-  module _ (l : j < length (blockAt F i .keys)) where
+  module _ (l : j < length (visitedBlock F i .keys)) where
     key-here : {p : CfgPoint} → p ≡ pointAt F i → j < length (blockOf F p (pointAt F (suc i)) .keys)
     key-here e = subst (λ (b : BlockLifting). j < length (b .keys)) (block-of k i h e) l
 
     module _ {r : ℕ} (e : regionEntry r ≡ pointAt F i) where
-      pub entry-in : (r < length (F .regions)) × (j < length (regionOf F r .ins))
-      entry-in = (of-text k i h e, entry-below F r (placeIn F r) (key-here e))
+      pub entry-region-in : (r < length (F .regions)) × (j < length (regionOf F r .ins))
+      entry-region-in = (of-text k i h e, entry-below F r (placeIn F r) (key-here e))
 
-      pub entry-decl : {d : Decl} → d ≡ getD (regionOf F r .ins) j (declFrom 0 0) → d ≡ declAt (blockAt F i)
+      pub entry-decl : {d : Decl} → d ≡ getD (regionOf F r .ins) j (declFrom 0 0) → d ≡ declAt (visitedBlock F i)
       entry-decl q = decl-here e (q ∙ ap (λ (ds : List Decl). getD ds j (declFrom 0 0)) (entry-decls F r (placeIn F r) (key-here e)))
 
     module _ {n : ℕ} (e : nodeEntry n ≡ pointAt F i) where
@@ -115,7 +115,7 @@ module _ {w u : List ℕ} {m : ℕ} (k : Visited w u m) (i : ℕ) (h : i < m) (j
           subst (λ (x : ℕ). j < length (regionOf F x .ins)) (sym q) (omega (arith, key-here e, loop-keys F (nodeOf F n) n loops)),
         )
 
-        pub input-decl : {d : Decl} → d ≡ getD (regionOf F b .ins) j (declFrom 0 0) → d ≡ declAt (blockAt F i)
+        pub input-decl : {d : Decl} → d ≡ getD (regionOf F b .ins) j (declFrom 0 0) → d ≡ declAt (visitedBlock F i)
         input-decl g =
             decl-here e (g
             ∙ ap (λ (x : ℕ). getD (regionOf F x .ins) j (declFrom 0 0)) q
@@ -125,7 +125,7 @@ module _ {w u : List ℕ} {m : ℕ} (k : Visited w u m) (i : ℕ) (h : i < m) (j
     output-in {n} e = (of-text k i h e, omega (arith, key-here e, out-keys n (outsOf (nodeOf F n))))
 
   -- the inits of the loop that begins there
-  module _ (l : j < length (blockAt F i .defaults)) {n : ℕ} (e : nodeEntry n ≡ pointAt F i) where
+  module _ (l : j < length (visitedBlock F i .defaults)) {n : ℕ} (e : nodeEntry n ≡ pointAt F i) where
     init-here : j < length (inBlock F (nodeOf F n) n .defaults)
     init-here = subst (λ (b : BlockLifting). j < length (b .defaults)) (block-of k i h e) l
 
@@ -135,7 +135,7 @@ module _ {w u : List ℕ} {m : ℕ} (k : Visited w u m) (i : ℕ) (h : i < m) (j
     pub init-low : 1 + j < 4096
     init-low = omega (arith, init-in .1, list-count (node-values (k .tables) n (init-in .0)))
 
-    pub init-value : {v : Value} → v ≡ getD (nodeValues (nodeOf F n)) (1 + j) (const 0) → v ≡ defaultAt (blockAt F i)
+    pub init-value : {v : Value} → v ≡ getD (nodeValues (nodeOf F n)) (1 + j) (const 0) → v ≡ defaultAt (visitedBlock F i)
     init-value q = default-here e (q ∙ init-at F (nodeOf F n) n j init-here)
 
 -- ---- values along edges
@@ -154,10 +154,10 @@ outs-along q (v ∷ vs) h zero d l = refl
 outs-along q (v ∷ vs) h (suc e) d l = absurd (omega arith)
 
 -- a value of an entry is one of an entry that there is
-pub entry-low : (l : List (ℕ × List Value)) (e : ℕ) {j : ℕ} → j < length (getD l e (0, []) .1) → e < length l
-entry-low [] e h = absurd (omega arith)
-entry-low (x ∷ l) zero h = omega arith
-entry-low (x ∷ l) (suc e) h = omega (arith, entry-low l e h)
+pub entry-value-low : (l : List (ℕ × List Value)) (e : ℕ) {j : ℕ} → j < length (getD l e (0, []) .1) → e < length l
+entry-value-low [] e h = absurd (omega arith)
+entry-value-low (x ∷ l) zero h = omega arith
+entry-value-low (x ∷ l) (suc e) h = omega (arith, entry-value-low l e h)
 
 module _ (F : Func) where
   pub none-carried : Carries F [] Defaults
@@ -167,8 +167,8 @@ module _ (F : Func) where
   no-entries [] h = none-carried
   no-entries (x ∷ l) h = absurd (omega arith)
 
-  pub entries-carried : {c : ℕ} → c < length (F .ctrls) → ¬ (length (ctrlLine F c .1 .vals) ≡ 0) → Carries F (entriesTo (ctrlLine F c .1 .vals)) (Entries c)
-  entries-carried {c} l h = record { is = λ e d p. entry-along (ctrlLine F c .1 .vals) h e d; fits = l }
+  pub entries-carried : {c : ℕ} → c < length (F .ctrls) → ¬ (length (ctrlLineOf F c .1 .vals) ≡ 0) → Carries F (entriesTo (ctrlLineOf F c .1 .vals)) (Entries c)
+  entries-carried {c} l h = record { is = λ e d p. entry-along (ctrlLineOf F c .1 .vals) h e d; fits = l }
 
   no-values : (q : CfgPoint) (vs : List Value) → length vs ≡ 0 → Carries F (someVals q vs) Defaults
   no-values q [] h = none-carried
@@ -197,5 +197,5 @@ along F {t} {x} k {z} {y} h g e d {j} l =
     record {
       fits = a .fits;
       below = subst (λ (vs : List Value). j < length vs) is l;
-      value = back (λ (vs : List Value). getD vs j (const 0)) is;
+      value = list-back (λ (vs : List Value). getD vs j (const 0)) is;
     }

@@ -8,9 +8,9 @@ use Rattle.opcodes.specs.declared.InstKind.the-variants.{Return, ReturnValue}
 use Rattle.lifting.specs.Ast.{Func, Imm, Value}
 use Rattle.lifting.specs.Parts.{ctrlInsts, nodeInsts, nodeOf, nodeValues, opInsts, opOf, regionOf}
 use Rattle.lifting.specs.Instructions.{short}
-use Rattle.func.specs.Keep.{immsOf as instImms}
+use Rattle.func.specs.Keep.{instImms}
 use Rattle.func.specs.Decode.{firstValue}
-use Rattle.func.specs.Tables.{ctrlLine}
+use Rattle.func.specs.Tables.{ctrlLineOf}
 use Rattle.emit_lists.specs.declared.Values.{Values}
 use Rattle.emit_lists.specs.declared.Values.the-variants.{None as NoValues, Operands, Ins, Node as NodeOf, Test, Outs}
 use Rattle.emit_lists.specs.declared.Imms.{Imms}
@@ -23,7 +23,7 @@ module _ (F : Func) where
   abbrev pub valuesOf : Values → List Value
   valuesOf NoValues = []
   valuesOf (Operands o) = opOf F o .operands
-  valuesOf (Ins c) = ctrlLine F c .1 .ins
+  valuesOf (Ins c) = ctrlLineOf F c .1 .ins
   valuesOf (NodeOf n) = nodeValues (nodeOf F n)
   valuesOf (Test n) = firstValue (nodeValues (nodeOf F n)) ∷ []
   valuesOf (Outs r) = regionOf F r .outs
@@ -38,12 +38,12 @@ module _ (F : Func) where
   ValuesFit (Outs r) = r < length (F .regions)
 
   -- the immediates
-  abbrev pub immsOf : Imms → List Imm
-  immsOf NoImms = []
-  immsOf (NodeImms n) = instImms (nodeInsts (nodeOf F n))
-  immsOf (Op o) = instImms (opInsts (opOf F o .kind))
-  immsOf (Ctrl c) = instImms (ctrlInsts (ctrlLine F c .1 .kind))
-  immsOf (Short k w) = short k w
+  abbrev pub listedImms : Imms → List Imm
+  listedImms NoImms = []
+  listedImms (NodeImms n) = instImms (nodeInsts (nodeOf F n))
+  listedImms (Op o) = instImms (opInsts (opOf F o .kind))
+  listedImms (Ctrl c) = instImms (ctrlInsts (ctrlLineOf F c .1 .kind))
+  listedImms (Short k w) = short k w
 
   -- their line is one of the text
   abbrev pub ImmsFit : Imms → Type 0
@@ -60,7 +60,7 @@ module _ (F : Func) where
 
   -- x names the immediates ms
   pub record ImmsAre (ms : List Imm) (x : Imms) : Type 0 where
-    pub is : immsOf x ≡ ms
+    pub is : listedImms x ≡ ms
     pub fits : ImmsFit x
 
 -- the opcode of a return with n inputs
@@ -69,6 +69,6 @@ returnOpcode zero = opcodeOf Return
 returnOpcode (suc n) = opcodeOf ReturnValue
 
 -- the ids that an op has before those of its operands
-abbrev pub calleeOf : Callee → List ℕ
-calleeOf No = []
-calleeOf (Id f) = f ∷ []
+abbrev pub idsOfCallee : Callee → List ℕ
+idsOfCallee No = []
+idsOfCallee (Id f) = f ∷ []

@@ -15,8 +15,8 @@ use Rattle.func.specs.declared.NodeKind.{NodeKind}
 use Rattle.func.specs.declared.NodeKind.the-variants.{Block, SelectBool, SelectInst, Loop, Exit}
 use Rattle.func.specs.declared.OpKind.{OpKind}
 use Rattle.func.specs.declared.OpKind.the-variants.{Inst as InstOp, Call, Ext}
-use Rattle.func.specs.Keep.{immsOf as instImms, opcodeOf as instOpcode}
-use Rattle.func.specs.Kinds.{ctrlKind, nodeKind, opKind}
+use Rattle.func.specs.Keep.{instImms, instOpcode}
+use Rattle.func.specs.Kinds.{ctrlKind, nodeKind, kindOfOp}
 use Rattle.emit_lists.specs.Named.{returnOpcode}
 use Rattle.emit_lists.specs.Laws.{by-kind}
 
@@ -27,7 +27,7 @@ kindOpcode d (InstOp a) = a
 kindOpcode d (Call f) = opcodeOf FunctionCall
 kindOpcode d (Ext s n) = opcodeOf ExtInst
 
-kind-opcode : (d : DataInstKind) → kindOpcode d (opKind d) ≡ opOpcode d
+kind-opcode : (d : DataInstKind) → kindOpcode d (kindOfOp d) ≡ opOpcode d
 kind-opcode (inst i) = refl
 kind-opcode (call f) = refl
 kind-opcode (ext s n) = refl
@@ -37,7 +37,7 @@ kindImms d (InstOp a) = instImms (opInsts d)
 kindImms d (Call f) = []
 kindImms d (Ext s n) = short literalExtInstInteger n
 
-kind-imms : (d : DataInstKind) → kindImms d (opKind d) ≡ opImms d
+kind-imms : (d : DataInstKind) → kindImms d (kindOfOp d) ≡ opImms d
 kind-imms (inst i) = append-nil (i .imms)
 kind-imms (call f) = refl
 kind-imms (ext s n) = refl
@@ -47,20 +47,20 @@ kindCallee d (InstOp a) = []
 kindCallee d (Call f) = f ∷ []
 kindCallee d (Ext s n) = s ∷ []
 
-kind-callee : (d : DataInstKind) → kindCallee d (opKind d) ≡ calleeIds d
+kind-callee : (d : DataInstKind) → kindCallee d (kindOfOp d) ≡ calleeIds d
 kind-callee (inst i) = refl
 kind-callee (call f) = refl
 kind-callee (ext s n) = refl
 
-module _ (d : DataInstKind) {k x : OpKind} (e : k ≡ opKind d) (q : k ≡ x) where
+module _ (d : DataInstKind) {k x : OpKind} (e : k ≡ kindOfOp d) (q : k ≡ x) where
   pub op-opcode-is : kindOpcode d x ≡ opOpcode d
-  op-opcode-is = by-kind opKind kindOpcode opOpcode kind-opcode d e q
+  op-opcode-is = by-kind kindOfOp kindOpcode opOpcode kind-opcode d e q
 
   pub op-imms-are : kindImms d x ≡ opImms d
-  op-imms-are = by-kind opKind kindImms opImms kind-imms d e q
+  op-imms-are = by-kind kindOfOp kindImms opImms kind-imms d e q
 
   pub op-callee-is : kindCallee d x ≡ calleeIds d
-  op-callee-is = by-kind opKind kindCallee calleeIds kind-callee d e q
+  op-callee-is = by-kind kindOfOp kindCallee calleeIds kind-callee d e q
 
 -- ---- returns
 
@@ -119,13 +119,13 @@ module _ (F : Func) (n : ℕ) where
   node-opcode (loop b c is u) = refl
   node-opcode (exit i vs) = refl
 
-  pub node-opcode-is : (d : Node) {k x : NodeKind} → k ≡ nodeKind d → k ≡ x
+  pub node-term-opcode : (d : Node) {k x : NodeKind} → k ≡ nodeKind d → k ≡ x
       → nodeOpcode d x ≡ termOpcode (inBlock F d n .term .kind) (nodeValues d)
-  node-opcode-is = by-kind nodeKind nodeOpcode (λ d. termOpcode (inBlock F d n .term .kind) (nodeValues d)) node-opcode
+  node-term-opcode = by-kind nodeKind nodeOpcode (λ d. termOpcode (inBlock F d n .term .kind) (nodeValues d)) node-opcode
 
-  pub node-imms : (d : Node) → instImms (nodeInsts d) ≡ termImms (inBlock F d n .term .kind)
-  node-imms (block is) = refl
-  node-imms (select boolCond v cs ds u) = refl
-  node-imms (select (spvInst i) v cs ds u) = append-nil (i .imms)
-  node-imms (loop b c is u) = refl
-  node-imms (exit i vs) = append-nil (i .imms)
+  pub node-term-imms : (d : Node) → instImms (nodeInsts d) ≡ termImms (inBlock F d n .term .kind)
+  node-term-imms (block is) = refl
+  node-term-imms (select boolCond v cs ds u) = refl
+  node-term-imms (select (spvInst i) v cs ds u) = append-nil (i .imms)
+  node-term-imms (loop b c is u) = refl
+  node-term-imms (exit i vs) = append-nil (i .imms)

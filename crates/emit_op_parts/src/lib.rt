@@ -12,7 +12,7 @@ ghost use Rattle.lifting.specs.Parts.{calleeIds, opOf};
 ghost use Rattle.lifting.specs.Instructions.{opImms, opOpcode};
 ghost use Rattle.func.specs.Decode.{funcOf};
 ghost use Rattle.func.specs.Tables.{Tables};
-ghost use Rattle.emit_lists.specs.Named.{ImmsAre, calleeOf};
+ghost use Rattle.emit_lists.specs.Named.{ImmsAre, idsOfCallee};
 
 // The operand kind of the number that an extended instruction has in its set.
 const EXT_INST_INTEGER: u32 = 4;
@@ -49,7 +49,7 @@ pub fn op_imms(func: &[u32], o: usize) -> Imms
 pub fn callee(func: &[u32], o: usize) -> Callee
     requires { ⌜ Tables (now func) ⌝ }
     requires { ⌜ o < length (funcOf (now func) .ops) ⌝ }
-    ensures { λ x. ⌜ calleeOf x ≡ calleeIds (opOf (funcOf (now (func .entry))) o .kind) ⌝ }
+    ensures { λ x. ⌜ idsOfCallee x ≡ calleeIds (opOf (funcOf (now (func .entry))) o .kind) ⌝ }
 {
     let kind = op_kind(func, o);
     match kind {

@@ -26,9 +26,9 @@ ghost use Rattle.lifting.specs.Instructions.{resultId};
 ghost use Rattle.lifting.specs.Walk.{walkOf};
 ghost use Rattle.lifting.specs.Absorb.{kept};
 ghost use Rattle.func.specs.Decode.{funcOf};
-ghost use Rattle.terminators.specs.At.{blockAt};
+ghost use Rattle.terminators.specs.At.{visitedBlock};
 ghost use Rattle.emit_words.specs.Put.{Put};
-ghost use Rattle.emit_lists.specs.Named.{calleeOf};
+ghost use Rattle.emit_lists.specs.Named.{idsOfCallee};
 ghost use Rattle.emit_insts.specs.Parts.{idEach, opFront, opIn};
 ghost use Rattle.emit_insts.specs.Ready.{EmitReady};
 
@@ -46,7 +46,7 @@ fn result_of(func: &[u32], work: &[u32], m: usize, first: u32, o: usize, ty: u32
 
 // How many ids an op has before its operands.
 fn callee_count(x: Callee) -> usize
-    ensures { λ n. ⌜ n ≡ length (calleeOf x) ⌝ }
+    ensures { λ n. ⌜ n ≡ length (idsOfCallee x) ⌝ }
     ensures { λ n. ⌜ n ≤ 1 ⌝ }
 {
     match x {
@@ -57,7 +57,7 @@ fn callee_count(x: Callee) -> usize
 
 // Appends the id that an op calls.
 fn put_callee(out: &mut [u32], c: Cursor, x: Callee) -> Cursor
-    ensures { λ r. ⌜ Put (now (out .entry)) c (idEach (λ n. n) (calleeOf x)) (now (out .exit)) r ⌝ }
+    ensures { λ r. ⌜ Put (now (out .entry)) c (idEach (λ n. n) (idsOfCallee x)) (now (out .exit)) r ⌝ }
 {
     match x {
         Callee::No => c,
@@ -154,7 +154,7 @@ pub fn put_ops(
 ) -> Cursor
     requires { ⌜ EmitReady (now func) (now work) m first ⌝ }
     requires { ⌜ i < m ⌝ }
-    ensures { λ r. ⌜ Put (now (out .entry)) c (gather (opIn (funcOf (now (func .entry))) first) (blockAt (funcOf (now (func .entry))) i .ops)) (now (out .exit)) r ⌝ }
+    ensures { λ r. ⌜ Put (now (out .entry)) c (gather (opIn (funcOf (now (func .entry))) first) (visitedBlock (funcOf (now (func .entry))) i .ops)) (now (out .exit)) r ⌝ }
 {
     let p = point(func, work, m, i);
     match p {

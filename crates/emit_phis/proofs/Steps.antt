@@ -21,20 +21,21 @@ use Rattle.lifting_runs.specs.Refers.{Named, refers}
 use Rattle.work.specs.Layout.{statusesAt}
 use Rattle.lifting_blocks.specs.Flat.{gone}
 use Rattle.walk_points.specs.Numbers.{pointNumber}
-use Rattle.terminators.specs.At.{blockAt, pointAt}
+use Rattle.terminators.specs.At.{visitedBlock, pointAt}
 use Rattle.terminators.specs.Visited.{Visited}
-use Rattle.blocks.specs.Absorbs.{stands}
+use Rattle.block_absorbs.specs.Absorbs.{stands}
 use Rattle.emit_words.specs.declared.Cursor.{Cursor}
-use Rattle.emit_words.specs.Put.{Item, Put, lastPlace, put-more, put-none, put-same}
-use Rattle.emit_edges.specs.Ends.{edgesInto, head-word, headAt}
-use Rattle.emit_edges.specs.Links.{Chained, Rest, nextAt, originAt, rest-done, rest-next}
+use Rattle.general_laws.specs.Part.{lastPlace}
+use Rattle.emit_words.specs.Put.{Item, Put, put-more, put-none, put-same}
+use Rattle.emit_edge_ends.specs.Ends.{edgesInto, head-word, headAt}
+use Rattle.emit_edge_ends.specs.Links.{Chained, ChainRest, nextAt, originAt, rest-done, rest-next}
 use Rattle.emit_insts.specs.Ready.{EmitReady, ready-visited}
 use Rattle.emit_phis.specs.Keys.{key-is, key-named, keyOf}
 use Rattle.emit_phis.specs.Along.{FirstInto, along-count, along-named, alongEdge, origin-low}
 use Rattle.emit_phis.specs.Items.{pairIn, pairs-count, pairs-edges, pairsIn, pairsOf}
 
-pub key-here : {w u : List ℕ} {m : ℕ} → Visited w u m → (i : ℕ) → i < m → (j : ℕ) → j < length (blockAt (funcOf w) i .keys) → {p : CfgPoint} → p ≡ pointAt (funcOf w) i
-    → keyOf (funcOf w) p j ≡ getD (blockAt (funcOf w) i .keys) j (const 0)
+pub key-here : {w u : List ℕ} {m : ℕ} → Visited w u m → (i : ℕ) → i < m → (j : ℕ) → j < length (visitedBlock (funcOf w) i .keys) → {p : CfgPoint} → p ≡ pointAt (funcOf w) i
+    → keyOf (funcOf w) p j ≡ getD (visitedBlock (funcOf w) i .keys) j (const 0)
 key-here {w} k i h j l e = ap (λ (q : CfgPoint). keyOf (funcOf w) q j) e ∙ sym (key-is (funcOf w) j (k .walkable) i (omega (arith, k .count)) l)
 
 module _ {w u : List ℕ} {m first : ℕ} (k : EmitReady w u m first) where
@@ -42,16 +43,16 @@ module _ {w u : List ℕ} {m first : ℕ} (k : EmitReady w u m first) where
   F = funcOf w
 
   pub head-number : (p : ℕ) → p < m → ¬ (stands F p ≡ gone) → getD u (statusesAt + p) 0 ≡ pointNumber (headAt F p) + 1
-  head-number p h s = k .laid .glued .status p h ∙ head-word (stands F p) (pointAt F p) s
+  head-number p h s = k .laid .absorbing .status p h ∙ head-word (stands F p) (pointAt F p) s
 
-  module _ (i j : ℕ) (h : i < m) (l : j < length (blockAt (funcOf w) i .keys)) where
+  module _ (i j : ℕ) (h : i < m) (l : j < length (visitedBlock (funcOf w) i .keys)) where
     visits : Visited w u m
     visits = ready-visited k i h
 
     inside : i < length (walkOf F)
     inside = omega (arith, visits .count)
 
-    pub key-names : Named F (getD (blockAt F i .keys) j (const 0))
+    pub key-names : Named F (getD (visitedBlock F i .keys) j (const 0))
     key-names = key-named F j (visits .walkable) i inside l
 
     pub pairs-put : gather (pairIn F first i j) (edgesInto F (pointAt F i) 0) ≡ pairsIn F first i j
@@ -77,7 +78,7 @@ module _ {w u : List ℕ} {m first : ℕ} (k : EmitReady w u m first) where
 -- those of the edges `done` are appended, and the edges from h on are left
 pub record Pairing (F : Func) (first i j : ℕ) (u w : List ℕ) (c : Cursor) (out : List ℕ) (d : Cursor) (h : ℕ) : Type 0 where
   pub done : List (ℕ × ℕ)
-  pub rest : Rest F (pointAt F i) u done h
+  pub rest : ChainRest F (pointAt F i) u done h
   pub put : Put w c (gather (pairIn F first i j) done) out d
 
 pub pairing-first : {F : Func} {first i j : ℕ} {u w : List ℕ} {c : Cursor} {h : ℕ} → length w ≤ lastPlace → c .at ≤ lastPlace → FirstInto F u i h

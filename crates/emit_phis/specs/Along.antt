@@ -24,13 +24,13 @@ use Rattle.lifting_blocks.specs.Flat.{Status, goes, gone, noPair, starts}
 use Rattle.lifting_blocks.specs.Laws.{each-once, stands-fit}
 use Rattle.walk_points.specs.Numbers.{Small}
 use Rattle.walk_points.specs.Walk.{Walkable}
-use Rattle.terminators.specs.At.{block-is, blockAt, blockOf, placeIn, pointAt}
+use Rattle.terminators.specs.At.{block-is, visitedBlock, blockOf, placeIn, pointAt}
 use Rattle.terminators.specs.Edges.{valuesAlong}
 use Rattle.terminators.specs.Visited.{Visited, point-small}
-use Rattle.blocks.specs.Absorbs.{goes-from, stands}
-use Rattle.emit_edges.specs.Ends.{Along, EndsAt, by-entry, by-sole, edge-end, edgesInto, end-edge, headAt, headOf}
-use Rattle.emit_edges.specs.Links.{Rest}
-use Rattle.emit_edges.specs.Values.{carries, edge-target, in-keys}
+use Rattle.block_absorbs.specs.Absorbs.{goes-from, stands}
+use Rattle.emit_edge_ends.specs.Ends.{EdgeAlong, EndsAt, by-entry, by-sole, edge-end, edgesInto, end-edge, headAt, labelPoint}
+use Rattle.emit_edge_ends.specs.Links.{ChainRest}
+use Rattle.emit_edge_ends.specs.Values.{carries, edge-target, in-keys}
 
 -- ---- how many
 
@@ -45,7 +45,7 @@ find-at {K} eq (x ∷ l) u (suc e) d h =
     ∙ find-at eq l (u .1) e d (omega arith)
 
 -- the values along an edge to q are those of the entry for q, or what q takes along an edge without one
-along-entry : (vs : List (CfgPoint × List Value)) (ps : List CfgPoint) (q : CfgPoint) (e : ℕ) (d : List Value) → NoDup (keys vs) → Along vs ps q e
+along-entry : (vs : List (CfgPoint × List Value)) (ps : List CfgPoint) (q : CfgPoint) (e : ℕ) (d : List Value) → NoDup (keys vs) → EdgeAlong vs ps q e
     → valsOr (find eqPoint q vs) d ≡ valuesAlong vs e d
 along-entry [] ps q e d u (by-entry l y) = absurd (omega arith)
 along-entry (x ∷ vs) ps q e d u (by-entry l y) =
@@ -80,7 +80,7 @@ module _ (F : Func) where
   module _ (refs : Refers F) where
     root-vals : (o : Option ControlInst) (r : ℕ) → ctrlOf F r ≡ o → All EntryNamed (rootTerm F o r .vals)
     root-vals none r e = tt
-    root-vals (some c) r e = entries-named (c .vals) (all-split (Named F) (c .ins) _ (refs .ctrl-named r e) .1)
+    root-vals (some c) r e = entries-named (c .vals) (all-split (Named F) (c .ins) _ (refs .named .ctrl r e) .1)
 
     loop-vals : (b : Bool) (n : ℕ) (c : Value) (vs : List Value) → All (Named F) vs → All EntryNamed (loopTerm F b n c vs .vals)
     loop-vals true n c vs h = some-named (nodeEntry n) vs h
@@ -94,7 +94,7 @@ module _ (F : Func) where
 
     exit-vals : (r : ℕ) (p : Place) → All EntryNamed (exitTerm F r p .vals)
     exit-vals r top = root-vals (ctrlOf F r) r refl
-    exit-vals r (inNode n) = child-vals (nodeOf F n) n (regionOf F r .outs) (refs .outs-named r)
+    exit-vals r (inNode n) = child-vals (nodeOf F n) n (regionOf F r .outs) (refs .named .outs r)
 
     in-vals : (d : Node) (n : ℕ) → All EntryNamed (inBlock F d n .term .vals)
     in-vals (block is) n = tt
@@ -117,18 +117,18 @@ module _ (F : Func) where
     block-defaults : (p q : CfgPoint) → All (Named F) (blockOf F p q .defaults)
     block-defaults (regionEntry r) q = tt
     block-defaults (regionExit r) q = tt
-    block-defaults (nodeEntry n) q = in-defaults (nodeOf F n) n (refs .node-named n)
+    block-defaults (nodeEntry n) q = in-defaults (nodeOf F n) n (refs .named .node n)
     block-defaults (nodeExit n) q = tt
 
 -- ---- an edge into the i-th visited point
 
 -- the chain of the edges into it starts at edge h
 abbrev pub FirstInto : Func → List ℕ → ℕ → ℕ → Type 0
-FirstInto F u i h = Rest F (pointAt F i) u [] h
+FirstInto F u i h = ChainRest F (pointAt F i) u [] h
 
 -- what moves along it
 abbrev pub alongEdge : Func → ℕ → ℕ × ℕ → List Value
-alongEdge F i o = valuesAlong (blockAt F (o .0) .term .vals) (o .1) (blockAt F i .defaults)
+alongEdge F i o = valuesAlong (visitedBlock F (o .0) .term .vals) (o .1) (visitedBlock F i .defaults)
 
 module _ (F : Func) (i : ℕ) {o : ℕ × ℕ} (x : In o (edgesInto F (pointAt F i) 0)) where
   origin : EndsAt F (pointAt F i) (o .0) (o .1)
@@ -141,21 +141,21 @@ module _ (F : Func) (i : ℕ) {o : ℕ × ℕ} (x : In o (edgesInto F (pointAt F
   origin-kept = origin .kept
 
   module _ (ok : Walkable F) (h : i < length (walkOf F)) where
-    pub along-count : controlFits F ≡ true → length (blockAt F i .keys) ≡ length (alongEdge F i o)
+    pub along-count : controlFits F ≡ true → length (visitedBlock F i .keys) ≡ length (alongEdge F i o)
     along-count control =
         let T : Table = walkOf F in
         let q : CfgPoint = pointAt F i in
-        let t : Terminator = blockAt F (o .0) .term in
+        let t : Terminator = visitedBlock F (o .0) .term in
         let c = carries F (ok .shaped) control (o .0) origin-low in
         let w = stands-fit F (ok .shaped) (o .0) origin-low origin-kept .to q (edge-target t c (origin .edge)) in
-        let same : some (w .0) ≡ some (blockAt F i) = sym (w .1) ∙ find-unique T (unique-of T (each-once F (ok .shaped))) q (blockAt F i) (in-getD T i noPair h) in
-        let here : w .0 ≡ blockAt F i = cc in
+        let same : some (w .0) ≡ some (visitedBlock F i) = sym (w .1) ∙ find-unique T (unique-of T (each-once F (ok .shaped))) q (visitedBlock F i) (in-getD T i noPair h) in
+        let here : w .0 ≡ visitedBlock F i = cc in
         subst (λ (b : BlockLifting). length (b .keys) ≡ length (valsOr (find eqPoint q (t .vals)) (b .defaults))) here (w .2)
-        ∙ ap length (along-entry (t .vals) (t .targets) q (o .1) (blockAt F i .defaults) (c .once) (end-edge t (origin .edge)))
+        ∙ ap length (along-entry (t .vals) (t .targets) q (o .1) (visitedBlock F i .defaults) (c .once) (end-edge t (origin .edge)))
 
     pub along-named : Refers F → All (Named F) (alongEdge F i o)
     along-named refs =
-        along-all F (blockAt F (o .0) .term .vals) (o .1) (blockAt F i .defaults)
+        along-all F (visitedBlock F (o .0) .term .vals) (o .1) (visitedBlock F i .defaults)
         (subst (λ (b : BlockLifting). All (EntryNamed F) (b .term .vals)) (sym (block-is F ok (o .0) origin-low)) (block-vals F refs (pointAt F (o .0)) (pointAt F (suc (o .0)))))
         (subst (λ (b : BlockLifting). All (Named F) (b .defaults)) (sym (block-is F ok i h)) (block-defaults F refs (pointAt F i) (pointAt F (suc i))))
 
@@ -164,7 +164,7 @@ module _ (F : Func) (i : ℕ) {o : ℕ × ℕ} (x : In o (edgesInto F (pointAt F
 pub head-small : {w u : List ℕ} {m : ℕ} → Visited w u m → (p : ℕ) → p < m → Small (headAt (funcOf w) p)
 head-small {w} k p h = go (stands (funcOf w) p) refl
   where
-    go : (s : Status) → stands (funcOf w) p ≡ s → Small (headOf s (pointAt (funcOf w) p))
+    go : (s : Status) → stands (funcOf w) p ≡ s → Small (labelPoint s (pointAt (funcOf w) p))
     go gone e = point-small k p h
     go starts e = point-small k p h
     go (goes q) e = let r = goes-from (funcOf w) p e in subst Small (sym (r .2)) (point-small k (r .0) (omega (arith, r .1)))

@@ -22,18 +22,18 @@ use Rattle.func.specs.Kinds.{declFrom}
 use Rattle.lifting_runs.specs.Shaped.{Shaped}
 use Rattle.lifting_blocks.specs.Flat.{upTo}
 use Rattle.lifting_blocks.specs.FlatLaws.{upTo-cons, upTo-same}
-use Rattle.terminators.specs.At.{blockAt, pointAt}
+use Rattle.terminators.specs.At.{visitedBlock, pointAt}
 use Rattle.emit_words.specs.Put.{Item, id}
 use Rattle.emit_words.specs.Items.{instItems, listItems}
-use Rattle.emit_edges.specs.Ends.{edgesInto}
-use Rattle.emit_edges.specs.Pairs.{pairOf, pairs-linked}
-use Rattle.emit_ids.specs.Ids.{idIn}
+use Rattle.emit_edge_ends.specs.Ends.{edgesInto}
+use Rattle.emit_edge_ends.specs.Pairs.{edgePair, pairs-linked}
+use Rattle.emit_names.specs.Ids.{idIn}
 use Rattle.emit_insts.specs.Parts.{front-same, frontItems, phi-is}
 
 module _ (F : Func) (first : ℕ) where
   -- the pair of an edge into the i-th visited point, for phi j
   abbrev pub pairIn : ℕ → ℕ → ℕ × ℕ → List Item
-  pairIn i j o = map id (pairOf F first (blockAt F i .defaults) j o)
+  pairIn i j o = map id (edgePair F first (visitedBlock F i .defaults) j o)
 
   -- the ids of phi j
   abbrev pub pairsOf : ℕ → ℕ → List ℕ
@@ -45,31 +45,31 @@ module _ (F : Func) (first : ℕ) where
   -- phi j of the i-th visited point
   abbrev pub phiIn : ℕ → ℕ → List Item
   phiIn i j =
-      instItems (phiInst F first (walkOf F) (kept (walkOf F)) (pointAt F i) (getD (blockAt F i .keys) j (const 0)) (getD (blockAt F i .decls) j (declFrom 0 0)) j)
+      instItems (phiInst F first (walkOf F) (kept (walkOf F)) (pointAt F i) (getD (visitedBlock F i .keys) j (const 0)) (getD (visitedBlock F i .decls) j (declFrom 0 0)) j)
 
   -- all of its phis
-  abbrev pub phisIn : ℕ → List Item
-  phisIn i = listItems (phiInsts F first (walkOf F) (kept (walkOf F)) (pointAt F i) (blockAt F i .keys) (blockAt F i .decls) 0)
+  abbrev pub phiItemsAt : ℕ → List Item
+  phiItemsAt i = listItems (phiInsts F first (walkOf F) (kept (walkOf F)) (pointAt F i) (visitedBlock F i .keys) (visitedBlock F i .decls) 0)
 
 two-each : {A : Type 0} (f g : A → ℕ) (l : List A) → length (gather (λ o. f o ∷ g o ∷ []) l) ≡ 2 * length l
 two-each f g [] = omega arith
 two-each f g (o ∷ l) = omega (arith, two-each f g l)
 
-module _ (F : Func) (ok : Shaped F) (control : controlFits F ≡ true) (first i j : ℕ) (h : i < length (walkOf F)) (l : j < length (blockAt F i .keys)) where
+module _ (F : Func) (ok : Shaped F) (control : controlFits F ≡ true) (first i j : ℕ) (h : i < length (walkOf F)) (l : j < length (visitedBlock F i .keys)) where
   pub pairs-edges : gather (pairIn F first i j) (edgesInto F (pointAt F i) 0) ≡ pairsIn F first i j
   pairs-edges =
-      sym (ap (map id) (pairs-linked F ok control first i j h l) ∙ map-gather id (pairOf F first (blockAt F i .defaults) j) (edgesInto F (pointAt F i) 0))
+      sym (ap (map id) (pairs-linked F ok control first i j h l) ∙ map-gather id (edgePair F first (visitedBlock F i .defaults) j) (edgesInto F (pointAt F i) 0))
 
   pub pairs-count : length (pairsOf F first i j) ≡ 2 * length (edgesInto F (pointAt F i) 0)
   pairs-count = ap length (pairs-linked F ok control first i j h l) ∙ two-each _ _ (edgesInto F (pointAt F i) 0)
 
-pub phi-runs : (F : Func) (first i j : ℕ) {o a t r n : ℕ} → o ≡ opcodeOf Phi → a ≡ getD (blockAt F i .decls) j (declFrom 0 0) .attrs
-    → t ≡ getD (blockAt F i .decls) j (declFrom 0 0) .type → r ≡ idIn F first (getD (blockAt F i .keys) j (const 0)) → n ≡ length (pairsOf F first i j)
+pub phi-runs : (F : Func) (first i j : ℕ) {o a t r n : ℕ} → o ≡ opcodeOf Phi → a ≡ getD (visitedBlock F i .decls) j (declFrom 0 0) .attrs
+    → t ≡ getD (visitedBlock F i .decls) j (declFrom 0 0) .type → r ≡ idIn F first (getD (visitedBlock F i .keys) j (const 0)) → n ≡ length (pairsOf F first i j)
     → frontItems o a t r [] n ++ pairsIn F first i j ≡ phiIn F first i j
 phi-runs F first i j {o} {a} {t} {r} eo ea et er en =
     ap (λ (k : ℕ). frontItems o a t r [] k ++ pairsIn F first i j) en
     ∙ ap (λ (f : List Item). f ++ pairsIn F first i j) (front-same (length (pairsOf F first i j)) eo ea et er refl)
-    ∙ phi-is F first (walkOf F) (kept (walkOf F)) (pointAt F i) (getD (blockAt F i .keys) j (const 0)) (getD (blockAt F i .decls) j (declFrom 0 0)) j
+    ∙ phi-is F first (walkOf F) (kept (walkOf F)) (pointAt F i) (getD (visitedBlock F i .keys) j (const 0)) (getD (visitedBlock F i .decls) j (declFrom 0 0)) j
 
 -- from phi j on
 module _ (F : Func) (first : ℕ) (T K : Table) (q : CfgPoint) (ds : List Decl) where
@@ -86,10 +86,10 @@ module _ (F : Func) (first : ℕ) (T K : Table) (q : CfgPoint) (ds : List Decl) 
       ∙ ap (λ (n : ℕ). phiAt v n ++ upTo (λ k. phiAt (getD ks k (const 0)) (j + suc k)) (length ks)) (sym z)
       ∙ sym (upTo-cons (λ k. phiAt (getD (v ∷ ks) k (const 0)) (j + k)) (length ks))
 
-pub phis-each : (F : Func) (first i : ℕ) → upTo (phiIn F first i) (length (blockAt F i .keys)) ≡ phisIn F first i
+pub phis-each : (F : Func) (first i : ℕ) → upTo (phiIn F first i) (length (visitedBlock F i .keys)) ≡ phiItemsAt F first i
 phis-each F first i =
-    let ks : List Value = blockAt F i .keys in
-    let ds : List Decl = blockAt F i .decls in
+    let ks : List Value = visitedBlock F i .keys in
+    let ds : List Decl = visitedBlock F i .decls in
     let at = phiAt F first (walkOf F) (kept (walkOf F)) (pointAt F i) ds in
     sym (phis-from F first (walkOf F) (kept (walkOf F)) (pointAt F i) ds ks 0
     ∙ upTo-same _ _ (λ k. let z : 0 + k ≡ k = omega arith in ap (at (getD ks k (const 0))) z) (length ks))

@@ -17,7 +17,7 @@ use Rattle.general_laws.specs.Members.{length-tabulate}
 use Rattle.lifting_runs.specs.Refers.{Named}
 use Rattle.walk_points.specs.Numbers.{getD-tabulate}
 use Rattle.walk_points.specs.Walk.{Walkable}
-use Rattle.terminators.specs.At.{block-is, blockAt, blockOf, placeIn, pointAt}
+use Rattle.terminators.specs.At.{block-is, visitedBlock, blockOf, placeIn, pointAt}
 
 -- what phi j of a point sets
 abbrev pub keyOf : Func → CfgPoint → ℕ → Value
@@ -57,15 +57,15 @@ module _ (F : Func) (j : ℕ) where
   point-key (nodeEntry n) q h = in-key (nodeOf F n) n h
   point-key (nodeExit n) q h = numbered (nodeOutput n) (length (outsOf (nodeOf F n))) (λ l. lt-ltb j (length (outsOf (nodeOf F n))) l) h
 
-  module _ (ok : Walkable F) (i : ℕ) (h : i < length (walkOf F)) (l : j < length (blockAt F i .keys)) where
-    key-at : Key (blockAt F i .keys) (keyOf F (pointAt F i) j)
+  module _ (ok : Walkable F) (i : ℕ) (h : i < length (walkOf F)) (l : j < length (visitedBlock F i .keys)) where
+    key-at : Key (visitedBlock F i .keys) (keyOf F (pointAt F i) j)
     key-at =
         let e = block-is F ok i h in
         subst (λ (b : BlockLifting). Key (b .keys) (keyOf F (pointAt F i) j)) (sym e)
         (point-key (pointAt F i) (pointAt F (suc i)) (subst (λ (b : BlockLifting). j < length (b .keys)) e l))
 
-    pub key-is : getD (blockAt F i .keys) j (const 0) ≡ keyOf F (pointAt F i) j
+    pub key-is : getD (visitedBlock F i .keys) j (const 0) ≡ keyOf F (pointAt F i) j
     key-is = key-at .is
 
-    pub key-named : Named F (getD (blockAt F i .keys) j (const 0))
+    pub key-named : Named F (getD (visitedBlock F i .keys) j (const 0))
     key-named = subst (Named F) (sym (key-at .is)) (key-at .names)

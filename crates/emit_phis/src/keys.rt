@@ -9,7 +9,7 @@ ghost use lib.ListN.{getD, length};
 ghost use Rattle.lifting.specs.Ast.{const};
 ghost use Rattle.func.specs.Decode.{funcOf};
 ghost use Rattle.func.specs.Kinds.{asValue};
-ghost use Rattle.terminators.specs.At.{blockAt};
+ghost use Rattle.terminators.specs.At.{visitedBlock};
 ghost use Rattle.terminators.specs.Visited.{Visited};
 
 // The value that phi j of the i-th visited point sets: an input of the root that begins there or of the body of the loop that begins there, or
@@ -17,8 +17,8 @@ ghost use Rattle.terminators.specs.Visited.{Visited};
 pub fn phi_value(func: &[u32], work: &[u32], m: usize, i: usize, j: usize) -> Val
     requires { ⌜ Visited (now func) (now work) m ⌝ }
     requires { ⌜ i < m ⌝ }
-    requires { ⌜ j < length (blockAt (funcOf (now func)) i .keys) ⌝ }
-    ensures { λ x. ⌜ asValue x ≡ getD (blockAt (funcOf (now (func .entry))) i .keys) j (const 0) ⌝ }
+    requires { ⌜ j < length (visitedBlock (funcOf (now func)) i .keys) ⌝ }
+    ensures { λ x. ⌜ asValue x ≡ getD (visitedBlock (funcOf (now (func .entry))) i .keys) j (const 0) ⌝ }
 {
     let p = point(func, work, m, i);
     match p {

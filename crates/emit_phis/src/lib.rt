@@ -18,13 +18,13 @@ ghost use mathlib.Core.Path.{_≡_};
 ghost use Prim.Native.Nat.{_*_, _≤_, _<_};
 ghost use lib.ListN.{length};
 ghost use Rattle.func.specs.Decode.{funcOf};
-ghost use Rattle.terminators.specs.At.{blockAt, pointAt};
+ghost use Rattle.terminators.specs.At.{visitedBlock, pointAt};
 ghost use Rattle.emit_words.specs.Put.{Put};
-ghost use Rattle.emit_edges.specs.Ends.{edgesInto};
-ghost use Rattle.emit_edges.specs.Links.{Linked};
+ghost use Rattle.emit_edge_ends.specs.Ends.{edgesInto};
+ghost use Rattle.emit_edge_ends.specs.Links.{Linked};
 ghost use Rattle.emit_insts.specs.Ready.{EmitReady};
 ghost use Rattle.emit_phis.specs.Along.{FirstInto};
-ghost use Rattle.emit_phis.specs.Items.{phiIn, phisIn};
+ghost use Rattle.emit_phis.specs.Items.{phiIn, phiItemsAt};
 
 // Appends phi j of the i-th visited point, into which h is the first edge; its pairs have that many ids.
 fn put_phi(
@@ -41,7 +41,7 @@ fn put_phi(
 ) -> Cursor
     requires { ⌜ EmitReady (now func) (now work) m first ⌝ }
     requires { ⌜ Linked (funcOf (now func)) (now work) ⌝ }
-    requires { ⌜ (i < m) × (j < length (blockAt (funcOf (now func)) i .keys)) ⌝ }
+    requires { ⌜ (i < m) × (j < length (visitedBlock (funcOf (now func)) i .keys)) ⌝ }
     requires { ⌜ FirstInto (funcOf (now func)) (now work) i h ⌝ }
     requires { ⌜ (ids ≡ 2 * length (edgesInto (funcOf (now func)) (pointAt (funcOf (now func)) i) 0)) × (ids ≤ 2048) ⌝ }
     ensures { λ r. ⌜ Put (now (out .entry)) c (phiIn (funcOf (now (func .entry))) first i j) (now (out .exit)) r ⌝ }
@@ -75,7 +75,7 @@ pub fn put_phis(
     requires { ⌜ EmitReady (now func) (now work) m first ⌝ }
     requires { ⌜ Linked (funcOf (now func)) (now work) ⌝ }
     requires { ⌜ i < m ⌝ }
-    ensures { λ r. ⌜ Put (now (out .entry)) c (phisIn (funcOf (now (func .entry))) first i) (now (out .exit)) r ⌝ }
+    ensures { λ r. ⌜ Put (now (out .entry)) c (phiItemsAt (funcOf (now (func .entry))) first i) (now (out .exit)) r ⌝ }
 {
     let h = first_into(func, work, m, i);
     let ids = pair_words(work, h);

@@ -1,9 +1,9 @@
 // The pairs of a phi: the edges into its point, along their chain.
 use emit_carried::edge_value;
-use emit_edges::edge_entry;
-use emit_edges::edge_position;
-use emit_edges::first_edge;
-use emit_edges::next_edge;
+use emit_chains::edge_entry;
+use emit_chains::edge_position;
+use emit_chains::first_edge;
+use emit_chains::next_edge;
 use emit_insts::id_of;
 use emit_insts::label_of;
 use emit_words::Cursor;
@@ -17,13 +17,13 @@ ghost use lib.ListN.{length};
 ghost use Rattle.func.specs.Decode.{funcOf};
 ghost use Rattle.general_laws.specs.Members.{In};
 ghost use Rattle.lifting_blocks.specs.Flat.{gone};
-ghost use Rattle.terminators.specs.At.{blockAt, pointAt};
+ghost use Rattle.terminators.specs.At.{visitedBlock, pointAt};
 ghost use Rattle.terminators.specs.Visited.{Visited};
-ghost use Rattle.blocks.specs.Absorbs.{stands};
-ghost use Rattle.emit_ids.specs.Ids.{labelIn};
+ghost use Rattle.block_absorbs.specs.Absorbs.{stands};
+ghost use Rattle.emit_names.specs.Ids.{labelIn};
 ghost use Rattle.emit_words.specs.Put.{Put};
-ghost use Rattle.emit_edges.specs.Ends.{edgesInto, headAt};
-ghost use Rattle.emit_edges.specs.Links.{Chained, Linked, chain};
+ghost use Rattle.emit_edge_ends.specs.Ends.{edgesInto, headAt};
+ghost use Rattle.emit_edge_ends.specs.Links.{Chained, Linked, chain};
 ghost use Rattle.emit_insts.specs.Ready.{EmitReady};
 ghost use Rattle.emit_phis.specs.Along.{FirstInto};
 ghost use Rattle.emit_phis.specs.Items.{pairIn, pairsIn};
@@ -52,7 +52,7 @@ fn put_pair(
     e: usize,
 ) -> Cursor
     requires { ⌜ EmitReady (now func) (now work) m first ⌝ }
-    requires { ⌜ (i < m) × (j < length (blockAt (funcOf (now func)) i .keys)) ⌝ }
+    requires { ⌜ (i < m) × (j < length (visitedBlock (funcOf (now func)) i .keys)) ⌝ }
     requires { ⌜ In (p, e) (edgesInto (funcOf (now func)) (pointAt (funcOf (now func)) i) 0) ⌝ }
     ensures { λ r. ⌜ Put (now (out .entry)) c (pairIn (funcOf (now (func .entry))) first i j (p, e)) (now (out .exit)) r ⌝ }
 {
@@ -101,7 +101,7 @@ pub fn put_pairs(
 ) -> Cursor
     requires { ⌜ EmitReady (now func) (now work) m first ⌝ }
     requires { ⌜ Linked (funcOf (now func)) (now work) ⌝ }
-    requires { ⌜ (i < m) × (j < length (blockAt (funcOf (now func)) i .keys)) ⌝ }
+    requires { ⌜ (i < m) × (j < length (visitedBlock (funcOf (now func)) i .keys)) ⌝ }
     requires { ⌜ FirstInto (funcOf (now func)) (now work) i h ⌝ }
     ensures { λ r. ⌜ Put (now (out .entry)) c (pairsIn (funcOf (now (func .entry))) first i j) (now (out .exit)) r ⌝ }
 {

@@ -18,7 +18,7 @@ ghost use Prim.Native.Nat.{_<_};
 ghost use lib.ListN.{length};
 ghost use Rattle.lifting.specs.Instructions.{termImms, termOpcode};
 ghost use Rattle.func.specs.Decode.{funcOf};
-ghost use Rattle.func.specs.Tables.{Tables, ctrlLine};
+ghost use Rattle.func.specs.Tables.{Tables, ctrlLineOf};
 ghost use Rattle.terminators.specs.declared.TermKind.the-variants.{Leave};
 ghost use Rattle.terminators.specs.Kinds.{Known, termOf};
 ghost use Rattle.emit_lists.specs.Named.{ImmsAre, ValuesAre, returnOpcode};
@@ -55,7 +55,7 @@ fn return_opcode(n: usize) -> u32
 fn line_opcode(func: &[u32], c: usize) -> u32
     requires { ⌜ Tables (now func) ⌝ }
     requires { ⌜ c < length (funcOf (now func) .ctrls) ⌝ }
-    ensures { λ x. ⌜ x ≡ termOpcode (ctrlLine (funcOf (now (func .entry))) c .1 .kind) (ctrlLine (funcOf (now (func .entry))) c .1 .ins) ⌝ }
+    ensures { λ x. ⌜ x ≡ termOpcode (ctrlLineOf (funcOf (now (func .entry))) c .1 .kind) (ctrlLineOf (funcOf (now (func .entry))) c .1 .ins) ⌝ }
 {
     let kind = ctrl_kind(func, c);
     match kind {

@@ -10,8 +10,8 @@ use lib.ListN.{length}
 use borrow.Author.Tests.{lt-ltb}
 use Rattle.general_laws.specs.Lists.{every, gather}
 use Rattle.lifting.specs.Instructions.{Instruction}
-use Rattle.lifting.specs.Words.{immWords, instWords, words}
-use Rattle.emit_words.specs.Put.{Item, anyMissing, id, isZero, missing-append, word, words-append, words-length, wordsOf}
+use Rattle.lifting.specs.Words.{immsWords, instWords, words}
+use Rattle.emit_words.specs.Put.{Item, anyMissing, id, isZero, missing-append, word, words-append, words-length, itemWords}
 
 -- opcode, attributes, result type, result, and the count of immediates
 abbrev pub headItems : ℕ → ℕ → ℕ → ℕ → ℕ → List Item
@@ -19,31 +19,31 @@ headItems o a t r n = word o ∷ word a ∷ word t ∷ word r ∷ word n ∷ []
 
 unfoldable pub instItems : Instruction → List Item
 instItems i =
-    headItems (i .opcode) (i .attrs) (i .type) (i .result) (length (i .imms)) ++ (map word (immWords (i .imms)) ++ (word (length (i .ids)) ∷ map id (i .ids)))
+    headItems (i .opcode) (i .attrs) (i .type) (i .result) (length (i .imms)) ++ (map word (immsWords (i .imms)) ++ (word (length (i .ids)) ∷ map id (i .ids)))
 
 unfoldable pub listItems : List Instruction → List Item
 unfolding instItems
 listItems l = gather instItems l
 
-word-items : (l : List ℕ) → wordsOf (map word l) ≡ l
-unfolding wordsOf
+word-items : (l : List ℕ) → itemWords (map word l) ≡ l
+unfolding itemWords
 word-items [] = refl
 word-items (x ∷ l) = ap (λ (t : List ℕ). x ∷ t) (word-items l)
 
-id-items : (l : List ℕ) → wordsOf (map id l) ≡ l
-unfolding wordsOf
+id-items : (l : List ℕ) → itemWords (map id l) ≡ l
+unfolding itemWords
 id-items [] = refl
 id-items (x ∷ l) = ap (λ (t : List ℕ). x ∷ t) (id-items l)
 
-inst-words : (i : Instruction) → wordsOf (instItems i) ≡ instWords i
-unfolding instItems instWords wordsOf
+inst-words : (i : Instruction) → itemWords (instItems i) ≡ instWords i
+unfolding instItems instWords itemWords
 inst-words i =
     ap (λ (t : List ℕ). i .opcode ∷ i .attrs ∷ i .type ∷ i .result ∷ length (i .imms) ∷ t)
-    (words-append (map word (immWords (i .imms))) (word (length (i .ids)) ∷ map id (i .ids))
-    ∙ ap₂ (λ (s t : List ℕ). s ++ (length (i .ids) ∷ t)) (word-items (immWords (i .imms))) (id-items (i .ids)))
+    (words-append (map word (immsWords (i .imms))) (word (length (i .ids)) ∷ map id (i .ids))
+    ∙ ap₂ (λ (s t : List ℕ). s ++ (length (i .ids) ∷ t)) (word-items (immsWords (i .imms))) (id-items (i .ids)))
 
-pub list-words : (l : List Instruction) → wordsOf (listItems l) ≡ words l
-unfolding listItems words wordsOf
+pub list-words : (l : List Instruction) → itemWords (listItems l) ≡ words l
+unfolding listItems words itemWords
 list-words [] = refl
 list-words (i ∷ l) = words-append (instItems i) (listItems l) ∙ ap₂ (λ (s t : List ℕ). s ++ t) (inst-words i) (list-words l)
 
@@ -71,8 +71,8 @@ ids-missing (x ∷ l) = ap₂ (λ (a b : Bool). a || b) (zero-missing x) (ids-mi
 inst-missing : (i : Instruction) → anyMissing (instItems i) ≡ not (every (λ n. ltb 0 n) (i .ids))
 unfolding instItems anyMissing
 inst-missing i =
-    missing-append (map word (immWords (i .imms))) (word (length (i .ids)) ∷ map id (i .ids))
-    ∙ ap₂ (λ (a b : Bool). a || b) (none-missing (immWords (i .imms))) (ids-missing (i .ids))
+    missing-append (map word (immsWords (i .imms))) (word (length (i .ids)) ∷ map id (i .ids))
+    ∙ ap₂ (λ (a b : Bool). a || b) (none-missing (immsWords (i .imms))) (ids-missing (i .ids))
 
 pub list-missing : (l : List Instruction) → anyMissing (listItems l) ≡ not (every (λ i. every (λ n. ltb 0 n) (i .ids)) l)
 unfolding listItems anyMissing

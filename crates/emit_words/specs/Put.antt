@@ -11,11 +11,9 @@ use mathlib.Core.List.{List, [], _∷_, _++_}
 use Prim.Native.Nat.{ℕ, zero, suc, _+_, _-_, _≤_, _<_}
 use native.Mathlib.Numerals.{add-one}
 use native.Mathlib.Omega.{arith}
-use lib.Dec.{leb}
-use lib.ListN.{length, set, length-append, length-set}
+use lib.ListN.{length, set, length-append}
 use lib.Seq.{sets, length-sets}
-use borrow.Author.Tests.{leb-true, leb-false}
-use Rattle.general_laws.specs.Part.{sets-sets}
+use Rattle.general_laws.specs.Part.{lastPlace, sat, sets-sat}
 use Rattle.lifting_blocks.specs.Flat.{upTo}
 use Rattle.emit_words.specs.declared.Cursor.{Cursor}
 
@@ -40,33 +38,25 @@ unfoldable pub anyMissing : List Item → Bool
 anyMissing [] = false
 anyMissing (x ∷ l) = missing x || anyMissing l
 
-unfoldable pub wordsOf : List Item → List ℕ
-wordsOf [] = []
-wordsOf (x ∷ l) = wordOf x ∷ wordsOf l
-
--- the largest place, of 64 bits
-abbrev pub lastPlace : ℕ
-lastPlace = 18446744073709551615
-
--- a place, at most the last one
-abbrev pub sat : ℕ → ℕ
-sat n = n - (n - lastPlace)
+unfoldable pub itemWords : List Item → List ℕ
+itemWords [] = []
+itemWords (x ∷ l) = wordOf x ∷ itemWords l
 
 -- the word that says whether an id was missing, after one that is or is not
-abbrev pub mark : ℕ → Bool → ℕ
-mark s true = 1
-mark s false = s
+abbrev pub missedMark : ℕ → Bool → ℕ
+missedMark s true = 1
+missedMark s false = s
 
-mark-mark : (s : ℕ) (a b : Bool) → mark (mark s a) b ≡ mark s (a || b)
+mark-mark : (s : ℕ) (a b : Bool) → missedMark (missedMark s a) b ≡ missedMark s (a || b)
 mark-mark s true true = refl
 mark-mark s true false = refl
 mark-mark s false b = refl
 
 pub record Put (w : List ℕ) (c : Cursor) (l : List Item) (out : List ℕ) (r : Cursor) : Type 0 where
   pub size : length w ≤ lastPlace
-  pub words : out ≡ sets w (c .at) (wordsOf l)
+  pub words : out ≡ sets w (c .at) (itemWords l)
   pub next : r .at ≡ sat (c .at + length l)
-  pub missed : r .missed ≡ mark (c .missed) (anyMissing l)
+  pub missed : r .missed ≡ missedMark (c .missed) (anyMissing l)
 
 or-assoc : (a b c : Bool) → ((a || b) || c) ≡ (a || (b || c))
 or-assoc true b c = refl
@@ -77,20 +67,20 @@ or-false true = refl
 or-false false = refl
 
 -- an id that is 0, and one that is not
-pub mark-zero : (s n : ℕ) → n ≡ 0 → 1 ≡ mark s (isZero n)
-mark-zero s n e = ap (λ (x : ℕ). mark s (isZero x)) (sym e)
+pub mark-zero : (s n : ℕ) → n ≡ 0 → 1 ≡ missedMark s (isZero n)
+mark-zero s n e = ap (λ (x : ℕ). missedMark s (isZero x)) (sym e)
 
-pub mark-pos : (s n : ℕ) → ¬ (n ≡ 0) → s ≡ mark s (isZero n)
+pub mark-pos : (s n : ℕ) → ¬ (n ≡ 0) → s ≡ missedMark s (isZero n)
 mark-pos s zero e = absurd (e refl)
 mark-pos s (suc n) e = refl
 
-pub words-append : (k l : List Item) → wordsOf (k ++ l) ≡ wordsOf k ++ wordsOf l
-unfolding wordsOf
+pub words-append : (k l : List Item) → itemWords (k ++ l) ≡ itemWords k ++ itemWords l
+unfolding itemWords
 words-append [] l = refl
 words-append (x ∷ k) l = ap (λ (t : List ℕ). wordOf x ∷ t) (words-append k l)
 
-pub words-length : (l : List Item) → length (wordsOf l) ≡ length l
-unfolding wordsOf
+pub words-length : (l : List Item) → length (itemWords l) ≡ length l
+unfolding itemWords
 words-length [] = refl
 words-length (x ∷ l) = ap suc (words-length l)
 
@@ -99,57 +89,33 @@ unfolding anyMissing
 missing-append [] l = refl
 missing-append (x ∷ k) l = ap (λ (b : Bool). missing x || b) (missing-append k l) ∙ sym (or-assoc (missing x) (anyMissing k) (anyMissing l))
 
--- stores past the end
-pub set-past : (w : List ℕ) (a v : ℕ) → length w ≤ a → set w a v ≡ w
-set-past [] a v h = refl
-set-past (x ∷ w) zero v h = absurd (omega arith)
-set-past (x ∷ w) (suc a) v h = ap (λ (t : List ℕ). x ∷ t) (set-past w a v (omega arith))
-
-pub sets-past : (vs w : List ℕ) (a : ℕ) → length w ≤ a → sets w a vs ≡ w
-sets-past [] w a h = refl
-sets-past (v ∷ vs) w a h = sets-past vs (set w a v) (suc a) (omega (arith, length-set w a v)) ∙ set-past w a v h
-
--- a run at a place that stays at the last one
-sets-sat : (w xs ys : List ℕ) (a : ℕ) → length w ≤ lastPlace → sets (sets w a xs) (sat (a + length xs)) ys ≡ sets w a (xs ++ ys)
-sets-sat w xs ys a h = go (leb (a + length xs) lastPlace) refl
-  where
-    go : (t : Bool) → leb (a + length xs) lastPlace ≡ t → sets (sets w a xs) (sat (a + length xs)) ys ≡ sets w a (xs ++ ys)
-    go true e =
-        let l = leb-true (a + length xs) lastPlace e in
-        ap (λ (k : ℕ). sets (sets w a xs) k ys) (omega arith) ∙ sets-sets w xs ys a
-    go false e =
-        let g = leb-false (a + length xs) lastPlace e in
-        sets-past ys (sets w a xs) (sat (a + length xs)) (omega (arith, length-sets w a xs))
-        ∙ sym (sets-past ys (sets w a xs) (a + length xs) (omega (arith, length-sets w a xs)))
-        ∙ sets-sets w xs ys a
-
 pub put-none : {w : List ℕ} {c : Cursor} → length w ≤ lastPlace → c .at ≤ lastPlace → Put w c [] w c
-unfolding wordsOf anyMissing
+unfolding itemWords anyMissing
 put-none {w} {c} h k = record { size = h; words = refl; next = omega arith; missed = refl }
 
 -- one store
 pub put-one : {w out : List ℕ} {c r : Cursor} (x : Item) → length w ≤ lastPlace → out ≡ set w (c .at) (wordOf x) → r .at ≡ sat (c .at + 1)
-    → r .missed ≡ mark (c .missed) (missing x) → Put w c (x ∷ []) out r
-unfolding wordsOf anyMissing
-put-one {c = c} x h e n b = record { size = h; words = e; next = n; missed = b ∙ ap (mark (c .missed)) (sym (or-false (missing x))) }
+    → r .missed ≡ missedMark (c .missed) (missing x) → Put w c (x ∷ []) out r
+unfolding itemWords anyMissing
+put-one {c = c} x h e n b = record { size = h; words = e; next = n; missed = b ∙ ap (missedMark (c .missed)) (sym (or-false (missing x))) }
 
 pub put-more : {w u v : List ℕ} {c d e : Cursor} {k l : List Item} → Put w c k u d → Put u d l v e → Put w c (k ++ l) v e
 put-more {w} {u} {v} {c} {d} {e} {k} {l} p q = record {
   size = p .size;
   words = q .words
-      ∙ ap (λ (x : List ℕ). sets x (d .at) (wordsOf l)) (p .words)
-      ∙ ap (λ (x : ℕ). sets (sets w (c .at) (wordsOf k)) x (wordsOf l)) (p .next ∙ ap (λ (x : ℕ). sat (c .at + x)) (sym (words-length k)))
-      ∙ sets-sat w (wordsOf k) (wordsOf l) (c .at) (p .size)
+      ∙ ap (λ (x : List ℕ). sets x (d .at) (itemWords l)) (p .words)
+      ∙ ap (λ (x : ℕ). sets (sets w (c .at) (itemWords k)) x (itemWords l)) (p .next ∙ ap (λ (x : ℕ). sat (c .at + x)) (sym (words-length k)))
+      ∙ sets-sat w (itemWords k) (itemWords l) (c .at) (p .size)
       ∙ ap (sets w (c .at)) (sym (words-append k l));
   next = omega (arith, p .next, q .next, length-append k l);
   missed = q .missed
-      ∙ ap (λ (x : ℕ). mark x (anyMissing l)) (p .missed)
+      ∙ ap (λ (x : ℕ). missedMark x (anyMissing l)) (p .missed)
       ∙ mark-mark (c .missed) (anyMissing k) (anyMissing l)
-      ∙ ap (mark (c .missed)) (sym (missing-append k l));
+      ∙ ap (missedMark (c .missed)) (sym (missing-append k l));
 }
 
 pub put-length : {w out : List ℕ} {c r : Cursor} {l : List Item} → Put w c l out r → length out ≡ length w
-put-length {w} {c = c} {l = l} p = ap length (p .words) ∙ length-sets w (c .at) (wordsOf l)
+put-length {w} {c = c} {l = l} p = ap length (p .words) ∙ length-sets w (c .at) (itemWords l)
 
 pub put-same : {w u : List ℕ} {c d : Cursor} {k l : List Item} → Put w c k u d → k ≡ l → Put w c l u d
 put-same {w} {u} {c} {d} p e = subst (λ (x : List Item). Put w c x u d) e p

@@ -3,7 +3,8 @@ ghost use mathlib.Core.Path.{_≡_};
 ghost use mathlib.Core.List.{[], _∷_};
 ghost use Prim.Native.Nat.{_+_};
 ghost use lib.ListN.{set};
-ghost use Rattle.emit_words.specs.Put.{Put, sat};
+ghost use Rattle.general_laws.specs.Part.{sat};
+ghost use Rattle.emit_words.specs.Put.{Put};
 ghost use Rattle.emit_words.specs.Put.Item.{word, id};
 ghost use Rattle.emit_words.specs.Items.{headItems};
 

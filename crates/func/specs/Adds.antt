@@ -67,18 +67,18 @@ adds-then {w} {v} {u} {g} {h} a b = record {
 }
 
 -- entries of one pool
-unfoldable pub into : ℕ → List (List ℕ) → ℕ → List (List ℕ)
-into k es j = elim (eqb k j) [ true ↦ es | false ↦ [] ]
+unfoldable pub intoPool : ℕ → List (List ℕ) → ℕ → List (List ℕ)
+intoPool k es j = elim (eqb k j) [ true ↦ es | false ↦ [] ]
 
-into-here : (k j : ℕ) (es : List (List ℕ)) → eqb k j ≡ true → into k es j ≡ es
-unfolding into
-into-here k j es e = rw (e, into)
+into-here : (k j : ℕ) (es : List (List ℕ)) → eqb k j ≡ true → intoPool k es j ≡ es
+unfolding intoPool
+into-here k j es e = rw (e, intoPool)
 
-into-else : (k j : ℕ) (es : List (List ℕ)) → eqb k j ≡ false → into k es j ≡ []
-unfolding into
-into-else k j es e = rw (e, into)
+into-else : (k j : ℕ) (es : List (List ℕ)) → eqb k j ≡ false → intoPool k es j ≡ []
+unfolding intoPool
+into-else k j es e = rw (e, intoPool)
 
-pub adds-push : {w : List ℕ} (k : ℕ) (e : List ℕ) → AddsReady w → k < poolTotal → length e ≡ width k → Adds w (push k e w) (into k (e ∷ []))
+pub adds-push : {w : List ℕ} (k : ℕ) (e : List ℕ) → AddsReady w → k < poolTotal → length e ≡ width k → Adds w (push k e w) (intoPool k (e ∷ []))
 adds-push {w} k e r l q = record {
   len = length-push k e w;
   head = λ j h. head-push k e w j l h;
@@ -87,12 +87,12 @@ adds-push {w} k e r l q = record {
   views = λ j m f. views j m f (eqb k j) refl;
 }
   where
-    counts : (j : ℕ) → j < poolTotal → (b : Bool) → eqb k j ≡ b → count j (push k e w) ≡ min (count j w + length (into k (e ∷ []) j)) (room j + 1)
+    counts : (j : ℕ) → j < poolTotal → (b : Bool) → eqb k j ≡ b → count j (push k e w) ≡ min (count j w + length (intoPool k (e ∷ []) j)) (room j + 1)
     counts j m true h =
         rw (into-here k j (e ∷ []) h) (subst (λ (i : ℕ). count i (push k e w) ≡ min (count i w + 1) (room i + 1)) (eqb-true k j h) (count-push k e w l (r .size)))
     counts j m false h = rw (into-else k j (e ∷ []) h) (omega (arith, r .counts j m, count-other k j e w l m (eqb-false k j h)))
 
-    mosts : (j : ℕ) → j < poolTotal → (b : Bool) → eqb k j ≡ b → most j (push k e w) ≡ max (most j w) (largest (into k (e ∷ []) j))
+    mosts : (j : ℕ) → j < poolTotal → (b : Bool) → eqb k j ≡ b → most j (push k e w) ≡ max (most j w) (largest (intoPool k (e ∷ []) j))
     mosts j m true h =
         rw (into-here k j (e ∷ []) h) (subst (λ (i : ℕ). most i (push k e w) ≡ max (most i w) (largest (e ∷ []))) (eqb-true k j h) (omega (arith, most-push k e w l (r .size))))
     mosts j m false h = rw (into-else k j (e ∷ []) h) (omega (arith, most-other k j e w l m (eqb-false k j h)))
@@ -100,7 +100,7 @@ adds-push {w} k e r l q = record {
     own : count k (push k e w) ≤ room k → view k (push k e w) ≡ view k w ++ e ∷ []
     own f = view-push k e w l (r .size) q (omega (arith, count-push k e w l (r .size)))
 
-    views : (j : ℕ) → j < poolTotal → count j (push k e w) ≤ room j → (b : Bool) → eqb k j ≡ b → view j (push k e w) ≡ view j w ++ into k (e ∷ []) j
+    views : (j : ℕ) → j < poolTotal → count j (push k e w) ≤ room j → (b : Bool) → eqb k j ≡ b → view j (push k e w) ≡ view j w ++ intoPool k (e ∷ []) j
     views j m f true h =
         rw (into-here k j (e ∷ []) h) (subst (λ (i : ℕ). count i (push k e w) ≤ room i → view i (push k e w) ≡ view i w ++ e ∷ []) (eqb-true k j h) own f)
     views j m f false h =
@@ -115,18 +115,18 @@ pub wide-map : {A : Type 0} (k : ℕ) (f : A → List ℕ) → ((a : A) → leng
 wide-map k f h [] = tt
 wide-map k f h (x ∷ xs) = (h x, wide-map k f h xs)
 
-pub adds-many : {w : List ℕ} (k : ℕ) (es : List (List ℕ)) → AddsReady w → k < poolTotal → Wide k es → Adds w (folds (push k) es w) (into k es)
+pub adds-many : {w : List ℕ} (k : ℕ) (es : List (List ℕ)) → AddsReady w → k < poolTotal → Wide k es → Adds w (folds (push k) es w) (intoPool k es)
 unfolding folds
 adds-many k [] r l h = adds-same (adds-none r) (λ j. nothing j (eqb k j) refl)
   where
-    nothing : (j : ℕ) (b : Bool) → eqb k j ≡ b → _≡_ {A = List (List ℕ)} [] (into k [] j)
+    nothing : (j : ℕ) (b : Bool) → eqb k j ≡ b → _≡_ {A = List (List ℕ)} [] (intoPool k [] j)
     nothing j true q = sym (into-here k j [] q)
     nothing j false q = sym (into-else k j [] q)
 adds-many k (e ∷ es) r l h =
     let a = adds-push k e r l (h .0) in
     adds-same (adds-then a (adds-many k es (ready-after r a) l (h .1))) (λ j. both j (eqb k j) refl)
   where
-    both : (j : ℕ) (b : Bool) → eqb k j ≡ b → into k (e ∷ []) j ++ into k es j ≡ into k (e ∷ es) j
+    both : (j : ℕ) (b : Bool) → eqb k j ≡ b → intoPool k (e ∷ []) j ++ intoPool k es j ≡ intoPool k (e ∷ es) j
     both j true q = rw (into-here k j (e ∷ []) q, into-here k j es q, into-here k j (e ∷ es) q)
     both j false q = rw (into-else k j (e ∷ []) q, into-else k j es q, into-else k j (e ∷ es) q)
 

@@ -19,15 +19,15 @@ use Rattle.lifting.specs.Limits.{maxRegions, maxNodes, maxOps, maxConsts, maxPa
 use Rattle.lifting.specs.Ast.{Value, const, regionInput, nodeOutput, dataInstOutput, Imm, DataInstKind, inst, call, ext, Op, boolCond, spvInst, Decl, Node, block, select, loop, exit, Region, ControlInstKind, unreachable, return, branch, selectBranch, exitInvocation, ControlInst, Func}
 use Rattle.lifting.specs.Parts.{childrenOf, outsOf, nodeControl, nodeValues, nodeInsts, opInsts, ctrlInsts, blockOps, ctrlValues}
 use Rattle.lifting.specs.Parts as text
-use Rattle.general_laws.specs.Gather.{back}
+use Rattle.general_laws.specs.Gather.{map-back}
 use Rattle.func.specs.Layout.{poolTotal, consts, params, decls, values, imms, targets, nodeRefs, opRefs, childRefs, entries, regions, nodes, ops, ctrls, entryRoom, entry-room}
 use Rattle.func.specs.Store.{count, view, folds}
 use Rattle.func.specs.Adds.{AddsReady, ready-after, adds-none, adds-push}
-use Rattle.func.specs.Lines.{num, span, keepCells, rowOf, lineGain, length-row, slice, Later, later-then, Piece, piece-back, CellIs, Row, agree, row-cells, line-back, Each, each-back, rows-back}
-use Rattle.func.specs.Keep.{single, constWords, declWords, immWords, pairWords, valueWords, immsOf, opcodeOf, nodeNumber, opNumber, opFirst, opSecond, ctrlNumber, regionCells, nodeCells, opCells, entryCells, ctrlCells, keepRegion, keepNode, keepOp, keepEntry, ctrlRow, keepCtrl, keepHead, keepFunc}
+use Rattle.func.specs.Lines.{num, poolSpan, keepCells, rowOf, lineGain, length-row, poolSlice, Later, later-then, Piece, piece-back, CellIs, Row, agree, row-cells, line-back, RowsEach, each-back, rows-back}
+use Rattle.func.specs.Keep.{oneWord, constWords, declWords, immWords, pairWords, valueWords, instImms, instOpcode, nodeNumber, opNumber, opFirst, opSecond, ctrlNumber, regionCells, nodeCells, opCells, entryCells, ctrlCells, keepRegion, keepNode, keepOp, keepEntry, ctrlRow, keepCtrl, keepHead, keepFunc}
 use Rattle.func.specs.Gains.{gain, rowFor, regionGain, nodeGain, opGain, entryGain, region-line, node-line, op-line, entry-line, adds-region, adds-node, adds-op, adds-entry, ctrl-lists, adds-ctrl-cells, entriesGain, adds-entries, ctrlRowOf, ctrl-wide, ctrlGain, adds-ctrl}
 use Rattle.func.specs.Whole.{Clear, clear-view, headed, clear-head, withConsts, withParams, withRegions, withNodes, withOps, stages, regionsGain, nodesGain, opsGain, ctrlsGain, funcGain, adds-func, gain-regions, gain-nodes, gain-ops, gain-ctrls, sizes, entryList, count-func, view-func, ready-clear}
-use Rattle.func.specs.Decode.{numberOf, constOf, declOf, immOf, valueFrom, valueOf, declsAt, valuesAt, immsAt, numbersAt, instAt, nodeFrom, opFrom, ctrlFrom, regionAt, nodeAt, opAt, entryAt, ctrlAt, funcOf}
+use Rattle.func.specs.Decode.{decodeNumber, decodeConst, decodeDecl, decodeImm, valueFrom, valueOf, declsAt, valuesAt, immsAt, numbersAt, instAt, nodeFrom, opFrom, ctrlFrom, regionAt, nodeAt, opAt, entryAt, ctrlAt, funcOf}
 
 -- Parts. A value comes back with its first number lowered to 65,535 at most.
 abbrev pub lowered : Value → Value
@@ -55,50 +55,50 @@ first (regionInput r i) = r
 first (nodeOutput n i) = n
 first (dataInstOutput i) = i
 
-abbrev pub kept : Value → Bool
-kept v = leb (first v) 65535
+abbrev pub firstFits : Value → Bool
+firstFits v = leb (first v) 65535
 
-pub value-back : (v : Value) → kept v ≡ true → valueOf (valueWords v) ≡ v
+pub value-back : (v : Value) → firstFits v ≡ true → valueOf (valueWords v) ≡ v
 value-back (const n) e = value-lowered (const n) ∙ ap const (let h = leb-true n 65535 e in omega arith)
 value-back (regionInput r i) e = value-lowered (regionInput r i) ∙ ap (λ (n : ℕ). regionInput n i) (let h = leb-true r 65535 e in omega arith)
 value-back (nodeOutput n i) e = value-lowered (nodeOutput n i) ∙ ap (λ (n : ℕ). nodeOutput n i) (let h = leb-true n 65535 e in omega arith)
 value-back (dataInstOutput i) e = value-lowered (dataInstOutput i) ∙ ap dataInstOutput (let h = leb-true i 65535 e in omega arith)
 
 -- lists of parts
-pub values-back : (vs : List Value) → every kept vs ≡ true → map valueOf (map valueWords vs) ≡ vs
-values-back vs h = back valueWords valueOf kept value-back vs h
+pub values-back : (vs : List Value) → every firstFits vs ≡ true → map valueOf (map valueWords vs) ≡ vs
+values-back vs h = map-back valueWords valueOf firstFits value-back vs h
 
 always : {A : Type 0} → A → Bool
 always a = true
 
 pub back-all : {A : Type 0} (f : A → List ℕ) (g : List ℕ → A) → ((a : A) → g (f a) ≡ a) → (xs : List A) → map g (map f xs) ≡ xs
 unfolding always
-back-all f g h xs = back f g always (λ a e. h a) xs (every-true always (λ a. refl) xs)
+back-all f g h xs = map-back f g always (λ a e. h a) xs (every-true always (λ a. refl) xs)
 
-pub decls-back : (ds : List Decl) → map declOf (map declWords ds) ≡ ds
-decls-back = back-all declWords declOf (λ d. refl)
+pub decls-back : (ds : List Decl) → map decodeDecl (map declWords ds) ≡ ds
+decls-back = back-all declWords decodeDecl (λ d. refl)
 
-pub imms-back : (is : List Imm) → map immOf (map immWords is) ≡ is
-imms-back = back-all immWords immOf (λ i. refl)
+pub imms-back : (is : List Imm) → map decodeImm (map immWords is) ≡ is
+imms-back = back-all immWords decodeImm (λ i. refl)
 
-pub numbers-back : (ns : List ℕ) → map numberOf (map single ns) ≡ ns
-numbers-back = back-all single numberOf (λ n. refl)
+pub numbers-back : (ns : List ℕ) → map decodeNumber (map oneWord ns) ≡ ns
+numbers-back = back-all oneWord decodeNumber (λ n. refl)
 
 -- every pool is within its room
 abbrev pub Fit : List ℕ → Type 0
 Fit t = (k : ℕ) → k < poolTotal → count k t ≤ entryRoom k
 
 -- Lines: what a row decodes to, if it says what its line says.
-region-back : {t : List ℕ} → Fit t → (e : List ℕ) (r : Region) → Row t e (regionCells r) → every kept (r .outs) ≡ true → regionAt t e ≡ r
+region-back : {t : List ℕ} → Fit t → (e : List ℕ) (r : Region) → Row t e (regionCells r) → every firstFits (r .outs) ≡ true → regionAt t e ≡ r
 unfolding regionAt regionCells
 region-back {t} fit e r h k =
-    let a : declsAt t (getD e 0 0) ≡ r .ins = ap (map declOf) (h .cell 0 (lit< tt) (fit decls (lit< tt)) .is) ∙ decls-back (r .ins) in
-    let b : numbersAt t nodeRefs (getD e 1 0) ≡ r .nodes = ap (map numberOf) (h .cell 1 (lit< tt) (fit nodeRefs (lit< tt)) .is) ∙ numbers-back (r .nodes) in
+    let a : declsAt t (getD e 0 0) ≡ r .ins = ap (map decodeDecl) (h .cell 0 (lit< tt) (fit decls (lit< tt)) .is) ∙ decls-back (r .ins) in
+    let b : numbersAt t nodeRefs (getD e 1 0) ≡ r .nodes = ap (map decodeNumber) (h .cell 1 (lit< tt) (fit nodeRefs (lit< tt)) .is) ∙ numbers-back (r .nodes) in
     let c : valuesAt t (getD e 2 0) ≡ r .outs = ap (map valueOf) (h .cell 2 (lit< tt) (fit values (lit< tt)) .is) ∙ values-back (r .outs) k in
     λ i. record { ins = a i; nodes = b i; outs = c i }
 
 -- a node from its parts
-node-parts : (n : Node) → nodeFrom (nodeNumber n) (record { opcode = opcodeOf (nodeInsts n); imms = immsOf (nodeInsts n) }) (nodeValues n) (blockOps n) (childrenOf n) (outsOf n) (nodeControl n) ≡ n
+node-parts : (n : Node) → nodeFrom (nodeNumber n) (record { opcode = instOpcode (nodeInsts n); imms = instImms (nodeInsts n) }) (nodeValues n) (blockOps n) (childrenOf n) (outsOf n) (nodeControl n) ≡ n
 unfolding nodeFrom
 node-parts (block is) = refl
 node-parts (select boolCond v cs ds u) = refl
@@ -106,38 +106,38 @@ node-parts (select (spvInst i) v cs ds u) = ap (λ (l : List Imm). select (spvIn
 node-parts (loop b c vs u) = refl
 node-parts (exit i vs) = ap (λ (l : List Imm). exit (record { opcode = i .opcode; imms = l }) vs) (append-nil (i .imms))
 
-node-back : {t : List ℕ} → Fit t → (e : List ℕ) (n : Node) → Row t e (nodeCells n) → every kept (nodeValues n) ≡ true → nodeAt t e ≡ n
+node-back : {t : List ℕ} → Fit t → (e : List ℕ) (n : Node) → Row t e (nodeCells n) → every firstFits (nodeValues n) ≡ true → nodeAt t e ≡ n
 unfolding nodeAt nodeCells
 node-back {t} fit e n h k =
-    let is : immsAt t (getD e 2 0) ≡ immsOf (nodeInsts n) = ap (map immOf) (h .cell 2 (lit< tt) (fit imms (lit< tt)) .is) ∙ imms-back (immsOf (nodeInsts n)) in
+    let is : immsAt t (getD e 2 0) ≡ instImms (nodeInsts n) = ap (map decodeImm) (h .cell 2 (lit< tt) (fit imms (lit< tt)) .is) ∙ imms-back (instImms (nodeInsts n)) in
     let vs : valuesAt t (getD e 3 0) ≡ nodeValues n = ap (map valueOf) (h .cell 3 (lit< tt) (fit values (lit< tt)) .is) ∙ values-back (nodeValues n) k in
-    let os : numbersAt t opRefs (getD e 4 0) ≡ blockOps n = ap (map numberOf) (h .cell 4 (lit< tt) (fit opRefs (lit< tt)) .is) ∙ numbers-back (blockOps n) in
-    let cs : numbersAt t childRefs (getD e 5 0) ≡ childrenOf n = ap (map numberOf) (h .cell 5 (lit< tt) (fit childRefs (lit< tt)) .is) ∙ numbers-back (childrenOf n) in
-    let ds : declsAt t (getD e 6 0) ≡ outsOf n = ap (map declOf) (h .cell 6 (lit< tt) (fit decls (lit< tt)) .is) ∙ decls-back (outsOf n) in
+    let os : numbersAt t opRefs (getD e 4 0) ≡ blockOps n = ap (map decodeNumber) (h .cell 4 (lit< tt) (fit opRefs (lit< tt)) .is) ∙ numbers-back (blockOps n) in
+    let cs : numbersAt t childRefs (getD e 5 0) ≡ childrenOf n = ap (map decodeNumber) (h .cell 5 (lit< tt) (fit childRefs (lit< tt)) .is) ∙ numbers-back (childrenOf n) in
+    let ds : declsAt t (getD e 6 0) ≡ outsOf n = ap (map decodeDecl) (h .cell 6 (lit< tt) (fit decls (lit< tt)) .is) ∙ decls-back (outsOf n) in
     (λ i. nodeFrom (h .cell 0 (lit< tt) i) (record { opcode = h .cell 1 (lit< tt) i; imms = is i }) (vs i) (os i) (cs i) (ds i) (h .cell 7 (lit< tt) i)) ∙ node-parts n
 
-op-parts : (k : DataInstKind) → opFrom (opNumber k) (record { opcode = opFirst k; imms = immsOf (opInsts k) }) (opSecond k) ≡ k
+op-parts : (k : DataInstKind) → opFrom (opNumber k) (record { opcode = opFirst k; imms = instImms (opInsts k) }) (opSecond k) ≡ k
 unfolding opFrom
 op-parts (inst i) = ap (λ (l : List Imm). inst (record { opcode = i .opcode; imms = l })) (append-nil (i .imms))
 op-parts (call f) = refl
 op-parts (ext s n) = refl
 
-op-back : {t : List ℕ} → Fit t → (e : List ℕ) (o : Op) → Row t e (opCells o) → every kept (o .operands) ≡ true → opAt t e ≡ o
+op-back : {t : List ℕ} → Fit t → (e : List ℕ) (o : Op) → Row t e (opCells o) → every firstFits (o .operands) ≡ true → opAt t e ≡ o
 unfolding opAt opCells
 op-back {t} fit e o h k =
-    let is : immsAt t (getD e 5 0) ≡ immsOf (opInsts (o .kind)) = ap (map immOf) (h .cell 5 (lit< tt) (fit imms (lit< tt)) .is) ∙ imms-back (immsOf (opInsts (o .kind))) in
+    let is : immsAt t (getD e 5 0) ≡ instImms (opInsts (o .kind)) = ap (map decodeImm) (h .cell 5 (lit< tt) (fit imms (lit< tt)) .is) ∙ imms-back (instImms (opInsts (o .kind))) in
     let vs : valuesAt t (getD e 6 0) ≡ o .operands = ap (map valueOf) (h .cell 6 (lit< tt) (fit values (lit< tt)) .is) ∙ values-back (o .operands) k in
     let kind : opFrom (getD e 2 0) (instAt t (getD e 3 0) (getD e 5 0)) (getD e 4 0) ≡ o .kind =
     (λ i. opFrom (h .cell 2 (lit< tt) i) (record { opcode = h .cell 3 (lit< tt) i; imms = is i }) (h .cell 4 (lit< tt) i)) ∙ op-parts (o .kind) in
     λ i. record { attrs = h .cell 0 (lit< tt) i; type = h .cell 1 (lit< tt) i; kind = kind i; operands = vs i }
 
-entry-back : {t : List ℕ} → Fit t → (e : List ℕ) (v : ℕ × List Value) → Row t e (entryCells v) → every kept (v .1) ≡ true → entryAt t e ≡ v
+entry-back : {t : List ℕ} → Fit t → (e : List ℕ) (v : ℕ × List Value) → Row t e (entryCells v) → every firstFits (v .1) ≡ true → entryAt t e ≡ v
 unfolding entryAt entryCells
 entry-back {t} fit e v h k =
     let vs : valuesAt t (getD e 1 0) ≡ v .1 = ap (map valueOf) (h .cell 1 (lit< tt) (fit values (lit< tt)) .is) ∙ values-back (v .1) k in
     λ i. (h .cell 0 (lit< tt) i, vs i)
 
-ctrl-parts : (k : ControlInstKind) → ctrlFrom (ctrlNumber k) (record { opcode = opcodeOf (ctrlInsts k); imms = immsOf (ctrlInsts k) }) ≡ k
+ctrl-parts : (k : ControlInstKind) → ctrlFrom (ctrlNumber k) (record { opcode = instOpcode (ctrlInsts k); imms = instImms (ctrlInsts k) }) ≡ k
 unfolding ctrlFrom
 ctrl-parts unreachable = refl
 ctrl-parts return = refl
@@ -151,18 +151,18 @@ pub record CtrlRow (t e : List ℕ) (c : ℕ × ControlInst) : Type 0 where
   pub cells : Row t e (ctrlCells c)
   pub rows : List (List ℕ)
   pub piece : count entries t ≤ entryRoom entries → Piece entries rows t (getD e 7 0)
-  pub vals : Each (λ e v. Row t e (entryCells v)) rows (c .1 .vals)
+  pub vals : RowsEach (λ e v. Row t e (entryCells v)) rows (c .1 .vals)
 
-ctrl-back : {t : List ℕ} → Fit t → (e : List ℕ) (c : ℕ × ControlInst) → CtrlRow t e c → every kept (ctrlValues c) ≡ true → ctrlAt t e ≡ c
+ctrl-back : {t : List ℕ} → Fit t → (e : List ℕ) (c : ℕ × ControlInst) → CtrlRow t e c → every firstFits (ctrlValues c) ≡ true → ctrlAt t e ≡ c
 unfolding ctrlAt ctrlCells
 ctrl-back {t} fit e c r k =
     let h = r .cells in
-    let q = every-split kept (c .1 .ins) (gather (λ e. e .1) (c .1 .vals)) k in
-    let is : immsAt t (getD e 4 0) ≡ immsOf (ctrlInsts (c .1 .kind)) = ap (map immOf) (h .cell 4 (lit< tt) (fit imms (lit< tt)) .is) ∙ imms-back (immsOf (ctrlInsts (c .1 .kind))) in
+    let q = every-split firstFits (c .1 .ins) (gather (λ e. e .1) (c .1 .vals)) k in
+    let is : immsAt t (getD e 4 0) ≡ instImms (ctrlInsts (c .1 .kind)) = ap (map decodeImm) (h .cell 4 (lit< tt) (fit imms (lit< tt)) .is) ∙ imms-back (instImms (ctrlInsts (c .1 .kind))) in
     let vs : valuesAt t (getD e 5 0) ≡ c .1 .ins = ap (map valueOf) (h .cell 5 (lit< tt) (fit values (lit< tt)) .is) ∙ values-back (c .1 .ins) (q .0) in
-    let to : numbersAt t targets (getD e 6 0) ≡ c .1 .to = ap (map numberOf) (h .cell 6 (lit< tt) (fit targets (lit< tt)) .is) ∙ numbers-back (c .1 .to) in
-    let vals : map (entryAt t) (slice entries t (getD e 7 0)) ≡ c .1 .vals =
-    ap (map (entryAt t)) (r .piece (fit entries (lit< tt)) .is) ∙ each-back (entryAt t) (λ e. every kept (e .1)) (entry-back fit) (r .vals) (every-parts kept (λ e. e .1) (c .1 .vals) (q .1)) in
+    let to : numbersAt t targets (getD e 6 0) ≡ c .1 .to = ap (map decodeNumber) (h .cell 6 (lit< tt) (fit targets (lit< tt)) .is) ∙ numbers-back (c .1 .to) in
+    let vals : map (entryAt t) (poolSlice entries t (getD e 7 0)) ≡ c .1 .vals =
+    ap (map (entryAt t)) (r .piece (fit entries (lit< tt)) .is) ∙ each-back (entryAt t) (λ e. every firstFits (e .1)) (entry-back fit) (r .vals) (every-parts firstFits (λ e. e .1) (c .1 .vals) (q .1)) in
     let kind : ctrlFrom (getD e 2 0) (instAt t (getD e 3 0) (getD e 4 0)) ≡ c .1 .kind =
     (λ i. ctrlFrom (h .cell 2 (lit< tt) i) (record { opcode = h .cell 3 (lit< tt) i; imms = is i })) ∙ ctrl-parts (c .1 .kind) in
     λ i. (h .cell 0 (lit< tt) i, record { attrs = h .cell 1 (lit< tt) i; kind = kind i; ins = vs i; to = to i; vals = vals i })
@@ -176,7 +176,7 @@ pub record RowFits (F : Func) : Type 0 where
   pub childRefs : length (text.childList F) ≤ maxRegions
   pub entries : length (entryList F) ≤ maxTargets
   pub ctrls : length (F .ctrls) ≤ maxRegions
-  pub firsts : every kept (text.values F) ≡ true
+  pub firsts : every firstFits (text.values F) ≡ true
 
 -- the nine limits of 3, as orders
 pub record Limits (F : Func) : Type 0 where
@@ -263,7 +263,7 @@ ctrl-row {t} c w r later =
     let lu = later-then (adds-push ctrls (ctrlRowOf c w) (ready-after rv b) (lit< tt) (ctrl-wide c w)) later in
     let h = row-cells a (later-then b lu) (ctrlCells c) (agree (ctrlCells c) (ctrl-lists c .0)) in
     let v = keepCells (ctrlCells c) w in
-    let x = span (count entries v) (count entries (folds keepEntry (c .1 .vals) v)) in
+    let x = poolSpan (count entries v) (count entries (folds keepEntry (c .1 .vals) v)) in
     record {
       cells = record {
         cell = λ j l.
@@ -278,10 +278,10 @@ ctrl-row {t} c w r later =
 
 -- the rows of a text, each of which says what its line says, where the pool of rows is within its room
 pub record Rows (F : Func) (t : List ℕ) : Type 0 where
-  pub regions : count regions t ≤ entryRoom regions → Each (λ e r. Row t e (regionCells r)) (view regions t) (F .regions)
-  pub nodes : count nodes t ≤ entryRoom nodes → Each (λ e n. Row t e (nodeCells n)) (view nodes t) (F .nodes)
-  pub ops : count ops t ≤ entryRoom ops → Each (λ e o. Row t e (opCells o)) (view ops t) (F .ops)
-  pub ctrls : count ctrls t ≤ entryRoom ctrls → Each (CtrlRow t) (view ctrls t) (F .ctrls)
+  pub regions : count regions t ≤ entryRoom regions → RowsEach (λ e r. Row t e (regionCells r)) (view regions t) (F .regions)
+  pub nodes : count nodes t ≤ entryRoom nodes → RowsEach (λ e n. Row t e (nodeCells n)) (view nodes t) (F .nodes)
+  pub ops : count ops t ≤ entryRoom ops → RowsEach (λ e o. Row t e (opCells o)) (view ops t) (F .ops)
+  pub ctrls : count ctrls t ≤ entryRoom ctrls → RowsEach (CtrlRow t) (view ctrls t) (F .ctrls)
 
 -- the words of the func line
 heads : Func → List ℕ
@@ -294,18 +294,18 @@ head-word w c F j l =
     ap (λ (n : ℕ). getD (sets w 0 h) n 0) (sym (zero-add j)) ∙ sym (part-at 0 4 (sets w 0 h) j l) ∙ ap (λ (x : List ℕ). getD x j 0) (part-same 0 4 h w refl (omega (arith, c .size)))
 
 -- the lines of a text whose values are all kept whole
-pub kept-lines : (F : Func) → every kept (text.values F) ≡ true
-    → (every (λ r. every kept (r .outs)) (F .regions) ≡ true) × (every (λ n. every kept (nodeValues n)) (F .nodes) ≡ true)
-    × (every (λ o. every kept (o .operands)) (F .ops) ≡ true) × (every (λ c. every kept (ctrlValues c)) (F .ctrls) ≡ true)
+pub kept-lines : (F : Func) → every firstFits (text.values F) ≡ true
+    → (every (λ r. every firstFits (r .outs)) (F .regions) ≡ true) × (every (λ n. every firstFits (nodeValues n)) (F .nodes) ≡ true)
+    × (every (λ o. every firstFits (o .operands)) (F .ops) ≡ true) × (every (λ c. every firstFits (ctrlValues c)) (F .ctrls) ≡ true)
 unfolding text.values
 kept-lines F e =
-    let r = every-split kept (gather (λ r. r .outs) (F .regions)) _ e in
-    let n = every-split kept (gather nodeValues (F .nodes)) _ (r .1) in
-    let o = every-split kept (gather (λ o. o .operands) (F .ops)) _ (n .1) in (
-      every-parts kept (λ r. r .outs) (F .regions) (r .0),
-      every-parts kept nodeValues (F .nodes) (n .0),
-      every-parts kept (λ o. o .operands) (F .ops) (o .0),
-      every-parts kept ctrlValues (F .ctrls) (o .1),
+    let r = every-split firstFits (gather (λ r. r .outs) (F .regions)) _ e in
+    let n = every-split firstFits (gather nodeValues (F .nodes)) _ (r .1) in
+    let o = every-split firstFits (gather (λ o. o .operands) (F .ops)) _ (n .1) in (
+      every-parts firstFits (λ r. r .outs) (F .regions) (r .0),
+      every-parts firstFits nodeValues (F .nodes) (n .0),
+      every-parts firstFits (λ o. o .operands) (F .ops) (o .0),
+      every-parts firstFits ctrlValues (F .ctrls) (o .1),
     )
 
 module _ (F : Func) {w : List ℕ} (c : Clear w) where
@@ -355,12 +355,12 @@ module _ (F : Func) {w : List ℕ} (c : Clear w) (f : RowFits F) where
       let t = keepFunc F w in
       let s = rows-func F c in
       let k = kept-lines F (f .firsts) in
-      let a : map constOf (view consts t) ≡ F .consts = ap (map constOf) (view-func F c consts (lit< tt) (fits-room F f consts (lit< tt))) ∙ back-all constWords constOf (λ x. refl) (F .consts) in
-      let b : map declOf (view params t) ≡ F .params = ap (map declOf) (view-func F c params (lit< tt) (fits-room F f params (lit< tt))) ∙ decls-back (F .params) in
-      let g : map (regionAt t) (view regions t) ≡ F .regions = each-back (regionAt t) (λ r. every kept (r .outs)) (region-back all-fit) (s .regions (all-fit regions (lit< tt))) (k .0) in
-      let n : map (nodeAt t) (view nodes t) ≡ F .nodes = each-back (nodeAt t) (λ n. every kept (nodeValues n)) (node-back all-fit) (s .nodes (all-fit nodes (lit< tt))) (k .1) in
-      let o : map (opAt t) (view ops t) ≡ F .ops = each-back (opAt t) (λ o. every kept (o .operands)) (op-back all-fit) (s .ops (all-fit ops (lit< tt))) (k .2) in
-      let m : map (ctrlAt t) (view ctrls t) ≡ F .ctrls = each-back (ctrlAt t) (λ c. every kept (ctrlValues c)) (ctrl-back all-fit) (s .ctrls (all-fit ctrls (lit< tt))) (k .3) in
+      let a : map decodeConst (view consts t) ≡ F .consts = ap (map decodeConst) (view-func F c consts (lit< tt) (fits-room F f consts (lit< tt))) ∙ back-all constWords decodeConst (λ x. refl) (F .consts) in
+      let b : map decodeDecl (view params t) ≡ F .params = ap (map decodeDecl) (view-func F c params (lit< tt) (fits-room F f params (lit< tt))) ∙ decls-back (F .params) in
+      let g : map (regionAt t) (view regions t) ≡ F .regions = each-back (regionAt t) (λ r. every firstFits (r .outs)) (region-back all-fit) (s .regions (all-fit regions (lit< tt))) (k .0) in
+      let n : map (nodeAt t) (view nodes t) ≡ F .nodes = each-back (nodeAt t) (λ n. every firstFits (nodeValues n)) (node-back all-fit) (s .nodes (all-fit nodes (lit< tt))) (k .1) in
+      let o : map (opAt t) (view ops t) ≡ F .ops = each-back (opAt t) (λ o. every firstFits (o .operands)) (op-back all-fit) (s .ops (all-fit ops (lit< tt))) (k .2) in
+      let m : map (ctrlAt t) (view ctrls t) ≡ F .ctrls = each-back (ctrlAt t) (λ c. every firstFits (ctrlValues c)) (ctrl-back all-fit) (s .ctrls (all-fit ctrls (lit< tt))) (k .3) in
       λ i. record {
         attrs = head-func F c 0 (lit< tt) i;
         ret = head-func F c 1 (lit< tt) i;

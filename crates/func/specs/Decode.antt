@@ -5,20 +5,20 @@ use lib.ListN.{getD}
 use Rattle.lifting.specs.Ast.{Value, const, regionInput, nodeOutput, dataInstOutput, Imm, Inst, DataInstKind, inst, call, ext, Op, boolCond, spvInst, Decl, Node, block, select, loop, exit, Region, ControlInstKind, unreachable, return, branch, selectBranch, exitInvocation, ControlInst, Const, Func}
 use Rattle.func.specs.Layout.{consts, params, decls, values, imms, targets, nodeRefs, opRefs, childRefs, entries, regions, nodes, ops, ctrls}
 use Rattle.func.specs.Store.{view}
-use Rattle.func.specs.Lines.{slice}
+use Rattle.func.specs.Lines.{poolSlice}
 
 -- the parts, from their words
-abbrev pub numberOf : List ℕ → ℕ
-numberOf e = getD e 0 0
+abbrev pub decodeNumber : List ℕ → ℕ
+decodeNumber e = getD e 0 0
 
-abbrev pub constOf : List ℕ → Const
-constOf e = record { id = getD e 0 0; opcode = getD e 1 0 }
+abbrev pub decodeConst : List ℕ → Const
+decodeConst e = record { id = getD e 0 0; opcode = getD e 1 0 }
 
-abbrev pub declOf : List ℕ → Decl
-declOf e = record { attrs = getD e 0 0; type = getD e 1 0 }
+abbrev pub decodeDecl : List ℕ → Decl
+decodeDecl e = record { attrs = getD e 0 0; type = getD e 1 0 }
 
-abbrev pub immOf : List ℕ → Imm
-immOf e = record { kind = getD e 0 0; operand = getD e 1 0; word = getD e 2 0 }
+abbrev pub decodeImm : List ℕ → Imm
+decodeImm e = record { kind = getD e 0 0; operand = getD e 1 0; word = getD e 2 0 }
 
 abbrev pub valueFrom : ℕ → ℕ → ℕ → Value
 valueFrom zero a b = const a
@@ -32,16 +32,16 @@ valueOf e = valueFrom (getD e 0 0 / 65536) (getD e 0 0 % 65536) (getD e 1 0)
 -- the lists of a row, from their runs
 module _ (w : List ℕ) where
   abbrev pub declsAt : ℕ → List Decl
-  declsAt x = map declOf (slice decls w x)
+  declsAt x = map decodeDecl (poolSlice decls w x)
 
   abbrev pub valuesAt : ℕ → List Value
-  valuesAt x = map valueOf (slice values w x)
+  valuesAt x = map valueOf (poolSlice values w x)
 
   abbrev pub immsAt : ℕ → List Imm
-  immsAt x = map immOf (slice imms w x)
+  immsAt x = map decodeImm (poolSlice imms w x)
 
   abbrev pub numbersAt : ℕ → ℕ → List ℕ
-  numbersAt k x = map numberOf (slice k w x)
+  numbersAt k x = map decodeNumber (poolSlice k w x)
 
   abbrev pub instAt : ℕ → ℕ → Inst
   instAt o x = record { opcode = o; imms = immsAt x }
@@ -105,7 +105,7 @@ ctrlAt w e = (
     kind = ctrlFrom (getD e 2 0) (instAt w (getD e 3 0) (getD e 4 0));
     ins = valuesAt w (getD e 5 0);
     to = numbersAt w targets (getD e 6 0);
-    vals = map (entryAt w) (slice entries w (getD e 7 0));
+    vals = map (entryAt w) (poolSlice entries w (getD e 7 0));
   },
 )
 
@@ -116,8 +116,8 @@ funcOf w = record {
   ret = getD w 1 0;
   type = getD w 2 0;
   control = getD w 3 0;
-  consts = map constOf (view consts w);
-  params = map declOf (view params w);
+  consts = map decodeConst (view consts w);
+  params = map decodeDecl (view params w);
   regions = map (regionAt w) (view regions w);
   nodes = map (nodeAt w) (view nodes w);
   ops = map (opAt w) (view ops w);

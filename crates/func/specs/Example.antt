@@ -1,15 +1,16 @@
 -- A small function with a line of each kind: it keeps to what `func-back` asks, so that it is read back. Assumes nothing.
 use mathlib.Core.Path.{_≡_, refl}
-use mathlib.Core.List.{[], _∷_}
-use Prim.Native.Nat.{ℕ}
+use mathlib.Core.List.{List, [], _∷_}
+use Prim.Native.Nat.{ℕ, _≤_}
 use lib.Dec.{lit≤}
-use lib.ListN.{replicate}
+use lib.ListN.{length}
 use Rattle.lifting.specs.Limits.{withinLimits}
 use Rattle.lifting.specs.Parts as text
 use Rattle.lifting.specs.Ast.{const, regionInput, nodeOutput, dataInstOutput, Inst, inst, call, ext, boolCond, spvInst, Decl, block, select, loop, exit, return, selectBranch, Func}
+use Rattle.func.specs.Layout.{funcNeed}
 use Rattle.func.specs.Keep.{keepFunc}
 use Rattle.func.specs.Decode.{funcOf}
-use Rattle.func.specs.Whole.{entryList, clear-zeros}
+use Rattle.func.specs.Whole.{entryList, emptyPools, clear-empty}
 use Rattle.func.specs.Back.{RowFits, func-back}
 
 decl : ℕ → ℕ → Decl
@@ -50,5 +51,5 @@ example-fits = record {
   firsts = refl;
 }
 
-example-back : funcOf (keepFunc example (replicate 16384 0)) ≡ example
-example-back = func-back example (clear-zeros 16384 (lit≤ tt)) example-fits
+example-back : (w : List ℕ) → funcNeed ≤ length w → funcOf (keepFunc example (emptyPools w)) ≡ example
+example-back w h = func-back example (clear-empty w h) example-fits

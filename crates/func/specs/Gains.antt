@@ -15,8 +15,8 @@ use Rattle.general_laws.specs.Gather.{gather-none}
 use Rattle.func.specs.Layout.{consts, params, decls, values, imms, targets, nodeRefs, opRefs, childRefs, entries, regions, nodes, ops, ctrls, shapes, lay, pools, poolOf, width}
 use Rattle.func.specs.Store.{folds}
 use Rattle.func.specs.Adds.{AddsReady, Adds, ready-after, adds-then, Wide, wide-map, grown, adds-folds, grown-gather}
-use Rattle.func.specs.Lines.{Cell, keepCells, rowOf, gained, fresh, proper, WideCells, adds-cells, lineGain, adds-row, Line, adds-line}
-use Rattle.func.specs.Keep.{single, constWords, declWords, immWords, valueWords, immsOf, regionCells, nodeCells, opCells, entryCells, ctrlCells, keepRegion, keepNode, keepOp, keepEntry, ctrlRow, keepCtrl}
+use Rattle.func.specs.Lines.{Cell, keepCells, rowOf, gained, freshPool, proper, WideCells, adds-cells, lineGain, adds-row, Line, adds-line}
+use Rattle.func.specs.Keep.{oneWord, constWords, declWords, immWords, valueWords, instImms, regionCells, nodeCells, opCells, entryCells, ctrlCells, keepRegion, keepNode, keepOp, keepEntry, ctrlRow, keepCtrl}
 
 -- entries of one pool's width
 values-wide : (v : Value) → length (valueWords v) ≡ width values
@@ -37,8 +37,8 @@ wide-imms : (is : List Imm) → Wide imms (map immWords is)
 unfolding width poolOf pools shapes lay
 wide-imms is = wide-map imms immWords (λ d. refl) is
 
-wide-numbers : (k : ℕ) → width k ≡ 1 → (ns : List ℕ) → Wide k (map single ns)
-wide-numbers k e ns = wide-map k single (λ n. sym e) ns
+wide-numbers : (k : ℕ) → width k ≡ 1 → (ns : List ℕ) → Wide k (map oneWord ns)
+wide-numbers k e ns = wide-map k oneWord (λ n. sym e) ns
 
 pub const-wide : (c : Const) → length (constWords c) ≡ width consts
 unfolding width poolOf pools shapes lay
@@ -50,7 +50,7 @@ param-wide d = refl
 
 -- the lines
 pub region-line : (r : Region) → Line regions (regionCells r)
-unfolding regionCells fresh proper width poolOf pools shapes lay
+unfolding regionCells freshPool proper width poolOf pools shapes lay
 region-line r = record {
   pool = lit< tt;
   own = refl;
@@ -60,30 +60,30 @@ region-line r = record {
 }
 
 pub node-line : (n : Node) → Line nodes (nodeCells n)
-unfolding nodeCells fresh proper width poolOf pools shapes lay
+unfolding nodeCells freshPool proper width poolOf pools shapes lay
 node-line n = record {
   pool = lit< tt;
   own = refl;
   size = refl;
   lists = refl;
   wide = (
-    wide-imms (immsOf (nodeInsts n)),
+    wide-imms (instImms (nodeInsts n)),
     (wide-values (nodeValues n), (wide-numbers opRefs refl (blockOps n), (wide-numbers childRefs refl (childrenOf n), (wide-decls (outsOf n), tt)))),
   );
 }
 
 pub op-line : (o : Op) → Line ops (opCells o)
-unfolding opCells fresh proper width poolOf pools shapes lay
+unfolding opCells freshPool proper width poolOf pools shapes lay
 op-line o = record {
   pool = lit< tt;
   own = refl;
   size = refl;
   lists = refl;
-  wide = (wide-imms (immsOf (opInsts (o .kind))), (wide-values (o .operands), tt));
+  wide = (wide-imms (instImms (opInsts (o .kind))), (wide-values (o .operands), tt));
 }
 
 pub entry-line : (e : ℕ × List Value) → Line entries (entryCells e)
-unfolding entryCells fresh proper width poolOf pools shapes lay
+unfolding entryCells freshPool proper width poolOf pools shapes lay
 entry-line e = record { pool = lit< tt; own = refl; size = refl; lists = refl; wide = (wide-values (e .1), tt) }
 
 -- a line's row, and what it gains
@@ -124,8 +124,8 @@ adds-entry e w h = adds-line entries (entryCells e) (entry-line e) h
 
 -- a ctrl line: its own lists, then those of its entries, then its row
 pub ctrl-lists : (c : ℕ × ControlInst) → (proper (ctrlCells c) ≡ true) × WideCells (ctrlCells c)
-unfolding ctrlCells fresh proper width poolOf pools shapes lay
-ctrl-lists c = (refl, (wide-imms (immsOf (ctrlInsts (c .1 .kind))), (wide-values (c .1 .ins), (wide-numbers targets refl (c .1 .to), tt))))
+unfolding ctrlCells freshPool proper width poolOf pools shapes lay
+ctrl-lists c = (refl, (wide-imms (instImms (ctrlInsts (c .1 .kind))), (wide-values (c .1 .ins), (wide-numbers targets refl (c .1 .to), tt))))
 
 pub adds-ctrl-cells : (c : ℕ × ControlInst) (w : List ℕ) → AddsReady w → Adds w (keepCells (ctrlCells c) w) (gained (ctrlCells c))
 adds-ctrl-cells c w h = adds-cells (ctrlCells c) (ctrl-lists c .0) (ctrl-lists c .1) h

@@ -9,11 +9,11 @@ use Rattle.lifting.specs.Ast.{Value, const, regionInput, nodeOutput, dataInstOu
 use Rattle.lifting.specs.Parts.{childrenOf, outsOf, nodeControl, nodeValues, nodeInsts, opInsts, ctrlInsts, blockOps}
 use Rattle.func.specs.Layout.{consts, params, decls, values, imms, targets, nodeRefs, opRefs, childRefs, entries, regions, nodes, ops, ctrls}
 use Rattle.func.specs.Store.{count, push, folds}
-use Rattle.func.specs.Lines.{Cell, num, run, span, keepCells, rowOf, keepLine}
+use Rattle.func.specs.Lines.{Cell, num, run, poolSpan, keepCells, rowOf, keepRow}
 
 -- The words of each part. A value's kind and first number share a word; a first number of 65,535 or more is kept as 65,535.
-abbrev pub single : ℕ → List ℕ
-single n = n ∷ []
+abbrev pub oneWord : ℕ → List ℕ
+oneWord n = n ∷ []
 
 abbrev pub constWords : Const → List ℕ
 constWords c = c .id ∷ c .opcode ∷ []
@@ -34,16 +34,16 @@ valueWords (nodeOutput n i) = pairWords 2 n i
 valueWords (dataInstOutput i) = pairWords 3 i 0
 
 -- the opcode and the immediates of a line's INST, if it has one
-abbrev pub opcodeOf : List Inst → ℕ
-opcodeOf [] = 0
-opcodeOf (i ∷ is) = i .opcode
+abbrev pub instOpcode : List Inst → ℕ
+instOpcode [] = 0
+instOpcode (i ∷ is) = i .opcode
 
-abbrev pub immsOf : List Inst → List Imm
-immsOf is = gather (λ i. i .imms) is
+abbrev pub instImms : List Inst → List Imm
+instImms is = gather (λ i. i .imms) is
 
 -- a region
 unfoldable pub regionCells : Region → List Cell
-regionCells r = run decls (map declWords (r .ins)) ∷ run nodeRefs (map single (r .nodes)) ∷ run values (map valueWords (r .outs)) ∷ []
+regionCells r = run decls (map declWords (r .ins)) ∷ run nodeRefs (map oneWord (r .nodes)) ∷ run values (map valueWords (r .outs)) ∷ []
 
 -- a node: 0 block, 1 select by bool, 2 select by INST, 3 loop, 4 exit
 abbrev pub nodeNumber : Node → ℕ
@@ -56,11 +56,11 @@ nodeNumber (exit i vs) = 4
 unfoldable pub nodeCells : Node → List Cell
 nodeCells n =
     num (nodeNumber n)
-    ∷ num (opcodeOf (nodeInsts n))
-    ∷ run imms (map immWords (immsOf (nodeInsts n)))
+    ∷ num (instOpcode (nodeInsts n))
+    ∷ run imms (map immWords (instImms (nodeInsts n)))
     ∷ run values (map valueWords (nodeValues n))
-    ∷ run opRefs (map single (blockOps n))
-    ∷ run childRefs (map single (childrenOf n))
+    ∷ run opRefs (map oneWord (blockOps n))
+    ∷ run childRefs (map oneWord (childrenOf n))
     ∷ run decls (map declWords (outsOf n))
     ∷ num (nodeControl n)
     ∷ []
@@ -88,7 +88,7 @@ opCells o =
     ∷ num (opNumber (o .kind))
     ∷ num (opFirst (o .kind))
     ∷ num (opSecond (o .kind))
-    ∷ run imms (map immWords (immsOf (opInsts (o .kind))))
+    ∷ run imms (map immWords (instImms (opInsts (o .kind))))
     ∷ run values (map valueWords (o .operands))
     ∷ []
 
@@ -110,10 +110,10 @@ ctrlCells c =
     num (c .0)
     ∷ num (c .1 .attrs)
     ∷ num (ctrlNumber (c .1 .kind))
-    ∷ num (opcodeOf (ctrlInsts (c .1 .kind)))
-    ∷ run imms (map immWords (immsOf (ctrlInsts (c .1 .kind))))
+    ∷ num (instOpcode (ctrlInsts (c .1 .kind)))
+    ∷ run imms (map immWords (instImms (ctrlInsts (c .1 .kind))))
     ∷ run values (map valueWords (c .1 .ins))
-    ∷ run targets (map single (c .1 .to))
+    ∷ run targets (map oneWord (c .1 .to))
     ∷ []
 
 -- The keepers of parts.
@@ -137,7 +137,7 @@ keepImm i w = push imms (immWords i) w
 
 -- a number, for pool k
 abbrev pub keepNumber : ℕ → ℕ → List ℕ → List ℕ
-keepNumber k n w = push k (single n) w
+keepNumber k n w = push k (oneWord n) w
 
 abbrev pub keepTarget : ℕ → List ℕ → List ℕ
 keepTarget = keepNumber targets
@@ -153,20 +153,20 @@ keepChild = keepNumber childRefs
 
 -- The keepers of lines.
 unfoldable pub keepRegion : Region → List ℕ → List ℕ
-keepRegion r w = keepLine regions (regionCells r) w
+keepRegion r w = keepRow regions (regionCells r) w
 
 unfoldable pub keepNode : Node → List ℕ → List ℕ
-keepNode n w = keepLine nodes (nodeCells n) w
+keepNode n w = keepRow nodes (nodeCells n) w
 
 unfoldable pub keepOp : Op → List ℕ → List ℕ
-keepOp o w = keepLine ops (opCells o) w
+keepOp o w = keepRow ops (opCells o) w
 
 unfoldable pub keepEntry : ℕ × List Value → List ℕ → List ℕ
-keepEntry e w = keepLine entries (entryCells e) w
+keepEntry e w = keepRow entries (entryCells e) w
 
 -- a ctrl line's row: its cells' words, and the run of its entries, which were pushed from the words v to the words u
 unfoldable pub ctrlRow : List Cell → List ℕ → List ℕ → List ℕ → List ℕ
-ctrlRow cs w v u = rowOf cs w v ++ span (count entries v) (count entries u) ∷ []
+ctrlRow cs w v u = rowOf cs w v ++ poolSpan (count entries v) (count entries u) ∷ []
 
 unfoldable pub keepCtrl : ℕ × ControlInst → List ℕ → List ℕ
 keepCtrl c w =

@@ -33,8 +33,8 @@ asValue (Input r i) = regionInput r i
 asValue (Output n i) = nodeOutput n i
 asValue (Result i) = dataInstOutput i
 
-abbrev pub asDecl : Slot → Decl
-asDecl s = record { attrs = s .attrs; type = s .ty }
+abbrev pub declOfSlot : Slot → Decl
+declOfSlot s = record { attrs = s .attrs; type = s .ty }
 
 abbrev pub asImm : Immediate → Imm
 asImm i = record { kind = i .kind; operand = i .operand; word = i .word }
@@ -76,10 +76,10 @@ node-number (loop b c vs u) = refl
 node-number (exit i vs) = refl
 
 -- an op's kind
-abbrev pub opKind : DataInstKind → OpKind
-opKind (inst i) = InstOp (i .opcode)
-opKind (call f) = Call f
-opKind (ext s n) = Ext s n
+abbrev pub kindOfOp : DataInstKind → OpKind
+kindOfOp (inst i) = InstOp (i .opcode)
+kindOfOp (call f) = Call f
+kindOfOp (ext s n) = Ext s n
 
 abbrev pub opKindNumber : OpKind → ℕ
 opKindNumber (InstOp o) = 0
@@ -101,22 +101,22 @@ opKindFrom zero a b = InstOp a
 opKindFrom (suc zero) a b = Call a
 opKindFrom (suc (suc k)) a b = Ext a b
 
-pub op-kind : (k : DataInstKind) → opKindFrom (opNumber k) (opFirst k) (opSecond k) ≡ opKind k
+pub op-kind : (k : DataInstKind) → opKindFrom (opNumber k) (opFirst k) (opSecond k) ≡ kindOfOp k
 op-kind (inst i) = refl
 op-kind (call f) = refl
 op-kind (ext s n) = refl
 
-pub op-number : (k : DataInstKind) → opKindNumber (opKind k) ≡ opNumber k
+pub op-number : (k : DataInstKind) → opKindNumber (kindOfOp k) ≡ opNumber k
 op-number (inst i) = refl
 op-number (call f) = refl
 op-number (ext s n) = refl
 
-pub op-first : (k : DataInstKind) → opKindFirst (opKind k) ≡ opFirst k
+pub op-first : (k : DataInstKind) → opKindFirst (kindOfOp k) ≡ opFirst k
 op-first (inst i) = refl
 op-first (call f) = refl
 op-first (ext s n) = refl
 
-pub op-second : (k : DataInstKind) → opKindSecond (opKind k) ≡ opSecond k
+pub op-second : (k : DataInstKind) → opKindSecond (kindOfOp k) ≡ opSecond k
 op-second (inst i) = refl
 op-second (call f) = refl
 op-second (ext s n) = refl

@@ -18,7 +18,7 @@ use Rattle.general_laws.specs.Tab.{slice-middle}
 use Rattle.general_laws.specs.Lists.{every}
 use Rattle.func.specs.Layout.{poolTotal, width, room, inside, entryRoom, entry-room}
 use Rattle.func.specs.Store.{count, view, push, folds, length-view}
-use Rattle.func.specs.Adds.{AddsReady, Adds, ready-after, adds-same, adds-none, adds-then, into, adds-push, Wide, adds-many, grown, adds-folds}
+use Rattle.func.specs.Adds.{AddsReady, Adds, ready-after, adds-same, adds-none, adds-then, intoPool, adds-push, Wide, adds-many, grown, adds-folds}
 
 pub data Cell : Type 0 where
   num : ℕ → Cell
@@ -28,8 +28,8 @@ pub data Cell : Type 0 where
 abbrev pub low : ℕ → ℕ
 low n = min n 4095
 
-unfoldable pub span : ℕ → ℕ → ℕ
-span a b = low a * 4096 + (low b - low a)
+unfoldable pub poolSpan : ℕ → ℕ → ℕ
+poolSpan a b = low a * 4096 + (low b - low a)
 
 -- the lists of a line, each pushed to its pool
 unfoldable pub keepCells : List Cell → List ℕ → List ℕ
@@ -41,14 +41,14 @@ keepCells (run p es ∷ cs) w = keepCells cs (folds (push p) es w)
 unfoldable pub rowOf : List Cell → List ℕ → List ℕ → List ℕ
 rowOf [] w v = []
 rowOf (num n ∷ cs) w v = n ∷ rowOf cs w v
-rowOf (run p es ∷ cs) w v = span (count p w) (count p v) ∷ rowOf cs w v
+rowOf (run p es ∷ cs) w v = poolSpan (count p w) (count p v) ∷ rowOf cs w v
 
-unfoldable pub keepLine : ℕ → List Cell → List ℕ → List ℕ
-keepLine k cs w = push k (rowOf cs w (keepCells cs w)) (keepCells cs w)
+unfoldable pub keepRow : ℕ → List Cell → List ℕ → List ℕ
+keepRow k cs w = push k (rowOf cs w (keepCells cs w)) (keepCells cs w)
 
 -- what the pools hold at a run
-unfoldable pub slice : ℕ → List ℕ → ℕ → List (List ℕ)
-slice k w x = take (x % 4096) (drop (x / 4096) (view k w))
+unfoldable pub poolSlice : ℕ → List ℕ → ℕ → List (List ℕ)
+poolSlice k w x = take (x % 4096) (drop (x / 4096) (view k w))
 
 -- what a line's lists add to pool j
 unfoldable pub gained : List Cell → ℕ → List (List ℕ)
@@ -57,16 +57,16 @@ gained (num n ∷ cs) j = gained cs j
 gained (run p es ∷ cs) j = elim (eqb p j) [ true ↦ es | false ↦ gained cs j ]
 
 -- no list of the line goes to pool p; each goes to a pool of its own
-unfoldable pub fresh : ℕ → List Cell → Bool
-fresh p [] = true
-fresh p (num n ∷ cs) = fresh p cs
-fresh p (run q es ∷ cs) = not (eqb q p) && fresh p cs
+unfoldable pub freshPool : ℕ → List Cell → Bool
+freshPool p [] = true
+freshPool p (num n ∷ cs) = freshPool p cs
+freshPool p (run q es ∷ cs) = not (eqb q p) && freshPool p cs
 
 unfoldable pub proper : List Cell → Bool
-unfolding fresh
+unfolding freshPool
 proper [] = true
 proper (num n ∷ cs) = proper cs
-proper (run p es ∷ cs) = ltb p poolTotal && fresh p cs && proper cs
+proper (run p es ∷ cs) = ltb p poolTotal && freshPool p cs && proper cs
 
 -- and has that pool's width
 abbrev pub WideCells : List Cell → Type 0
@@ -74,11 +74,11 @@ WideCells [] = Unit {0}
 WideCells (num n ∷ cs) = WideCells cs
 WideCells (run p es ∷ cs) = Wide p es × WideCells cs
 
-proper-parts : (p : ℕ) (es : List (List ℕ)) (cs : List Cell) → proper (run p es ∷ cs) ≡ true → (p < poolTotal) × (fresh p cs ≡ true) × (proper cs ≡ true)
+proper-parts : (p : ℕ) (es : List (List ℕ)) (cs : List Cell) → proper (run p es ∷ cs) ≡ true → (p < poolTotal) × (freshPool p cs ≡ true) × (proper cs ≡ true)
 unfolding proper
 proper-parts p es cs e =
-    let a = both (ltb p poolTotal && fresh p cs) (proper cs) e in
-    let b = both (ltb p poolTotal) (fresh p cs) (a .0) in
+    let a = both (ltb p poolTotal && freshPool p cs) (proper cs) e in
+    let b = both (ltb p poolTotal) (freshPool p cs) (a .0) in
     (ltb-true p poolTotal (b .0), b .1, a .1)
 
 gained-here : (p j : ℕ) (es : List (List ℕ)) (cs : List Cell) → eqb p j ≡ true → gained (run p es ∷ cs) j ≡ es
@@ -89,12 +89,12 @@ gained-else : (p j : ℕ) (es : List (List ℕ)) (cs : List Cell) → eqb p j �
 unfolding gained
 gained-else p j es cs e = rw (e, gained)
 
-gained-fresh : (p : ℕ) (cs : List Cell) → fresh p cs ≡ true → gained cs p ≡ []
-unfolding gained fresh
+gained-fresh : (p : ℕ) (cs : List Cell) → freshPool p cs ≡ true → gained cs p ≡ []
+unfolding gained freshPool
 gained-fresh p [] e = refl
 gained-fresh p (num n ∷ cs) e = gained-fresh p cs e
 gained-fresh p (run q es ∷ cs) e =
-    let a = both (not (eqb q p)) (fresh p cs) e in
+    let a = both (not (eqb q p)) (freshPool p cs) e in
     gained-else q p es cs (not-true (eqb q p) (a .0)) ∙ gained-fresh p cs (a .1)
 
 pub adds-cells : {w : List ℕ} (cs : List Cell) → proper cs ≡ true → WideCells cs → AddsReady w → Adds w (keepCells cs w) (gained cs)
@@ -106,11 +106,11 @@ adds-cells (run p es ∷ cs) e h r =
     let a = adds-many p es r (q .0) (h .0) in
     adds-same (adds-then a (adds-cells cs (q .2) (h .1) (ready-after r a))) (λ j. joined j (q .1) (eqb p j) refl)
   where
-    joined : (j : ℕ) → fresh p cs ≡ true → (b : Bool) → eqb p j ≡ b → into p es j ++ gained cs j ≡ gained (run p es ∷ cs) j
+    joined : (j : ℕ) → freshPool p cs ≡ true → (b : Bool) → eqb p j ≡ b → intoPool p es j ++ gained cs j ≡ gained (run p es ∷ cs) j
     joined j f true q =
-        subst (λ (i : ℕ). into p es j ++ gained cs i ≡ gained (run p es ∷ cs) j) (eqb-true p j q)
-        (rw (gained-fresh p cs f, gained-here p j es cs q, append-nil) (unfold into in rw (q, into)))
-    joined j f false q = rw (gained-else p j es cs q) (unfold into in rw (q, into))
+        subst (λ (i : ℕ). intoPool p es j ++ gained cs i ≡ gained (run p es ∷ cs) j) (eqb-true p j q)
+        (rw (gained-fresh p cs f, gained-here p j es cs q, append-nil) (unfold intoPool in rw (q, intoPool)))
+    joined j f false q = rw (gained-else p j es cs q) (unfold intoPool in rw (q, intoPool))
 
 -- a whole line
 unfoldable pub lineGain : ℕ → List Cell → List ℕ → ℕ → List (List ℕ)
@@ -126,23 +126,23 @@ length-row (run p es ∷ cs) w v = ap suc (length-row cs w v)
 -- a row after the lists: what they add, and the row
 pub adds-row : {w v : List ℕ} (k : ℕ) (row : List ℕ) (g : ℕ → List (List ℕ)) → AddsReady w → Adds w v g → k < poolTotal → g k ≡ [] → length row ≡ width k
     → Adds w (push k row v) (λ j. elim (eqb k j) [ true ↦ row ∷ [] | false ↦ g j ])
-unfolding into
+unfolding intoPool
 adds-row {w} {v} k row g r a l f q = adds-same (adds-then a (adds-push k row (ready-after r a) l q)) (λ j. joined j (eqb k j) refl)
   where
-    joined : (j : ℕ) (b : Bool) → eqb k j ≡ b → g j ++ into k (row ∷ []) j ≡ elim (eqb k j) as (λ x. List (List ℕ)) [ true ↦ row ∷ [] | false ↦ g j ]
-    joined j true e = rw (e, into) (ap (λ (x : List (List ℕ)). x ++ row ∷ []) (ap g (sym (eqb-true k j e)) ∙ f))
-    joined j false e = rw (e, into) (append-nil (g j))
+    joined : (j : ℕ) (b : Bool) → eqb k j ≡ b → g j ++ intoPool k (row ∷ []) j ≡ elim (eqb k j) as (λ x. List (List ℕ)) [ true ↦ row ∷ [] | false ↦ g j ]
+    joined j true e = rw (e, intoPool) (ap (λ (x : List (List ℕ)). x ++ row ∷ []) (ap g (sym (eqb-true k j e)) ∙ f))
+    joined j false e = rw (e, intoPool) (append-nil (g j))
 
 -- a line that can be kept in pool k
 pub record Line (k : ℕ) (cs : List Cell) : Type 0 where
   pub pool : k < poolTotal
-  pub own : fresh k cs ≡ true
+  pub own : freshPool k cs ≡ true
   pub size : length cs ≡ width k
   pub lists : proper cs ≡ true
   pub wide : WideCells cs
 
-pub adds-line : {w : List ℕ} (k : ℕ) (cs : List Cell) → Line k cs → AddsReady w → Adds w (keepLine k cs w) (lineGain k cs (rowOf cs w (keepCells cs w)))
-unfolding keepLine lineGain
+pub adds-line : {w : List ℕ} (k : ℕ) (cs : List Cell) → Line k cs → AddsReady w → Adds w (keepRow k cs w) (lineGain k cs (rowOf cs w (keepCells cs w)))
+unfolding keepRow lineGain
 adds-line {w} k cs l r =
     adds-row k (rowOf cs w (keepCells cs w)) (gained cs) r (adds-cells cs (l .lists) (l .wide) r) (l .pool) (gained-fresh k cs (l .own))
     (length-row cs w (keepCells cs w) ∙ l .size)
@@ -161,7 +161,7 @@ later-fits b k l f = omega (arith, b .adds .counts k l)
 -- the word x is a run of pool p, and the entries es stand there
 pub record Piece (p : ℕ) (es : List (List ℕ)) (w : List ℕ) (x : ℕ) : Type 0 where
   pub within : x / 4096 + x % 4096 ≤ count p w
-  pub is : slice p w x ≡ es
+  pub is : poolSlice p w x ≡ es
 
 -- a cell of a row: a list stands in its pool, if that is within its room, whatever the others are; and a row
 abbrev pub CellIs : List ℕ → ℕ → Cell → Type 0
@@ -171,25 +171,25 @@ CellIs w x (run p es) = count p w ≤ entryRoom p → Piece p es w x
 pub record Row (w e : List ℕ) (cs : List Cell) : Type 0 where
   pub cell : (j : ℕ) → j < length cs → CellIs w (getD e j 0) (getD cs j (num 0))
 
-span-start : (a b : ℕ) → a ≤ b → b ≤ 4095 → span a b / 4096 ≡ a
-unfolding span
+span-start : (a b : ℕ) → a ≤ b → b ≤ 4095 → poolSpan a b / 4096 ≡ a
+unfolding poolSpan
 span-start a b h k = omega arith
 
-span-count : (a b : ℕ) → a ≤ b → b ≤ 4095 → span a b % 4096 ≡ b - a
-unfolding span
+span-count : (a b : ℕ) → a ≤ b → b ≤ 4095 → poolSpan a b % 4096 ≡ b - a
+unfolding poolSpan
 span-count a b h k = omega arith
 
 -- THE core: a list that a pool gained from w to v is what stands at that run at any later time
-pub piece-back : {w v t : List ℕ} {g : ℕ → List (List ℕ)} (p : ℕ) → Adds w v g → Later v t → p < poolTotal → count p t ≤ entryRoom p → Piece p (g p) t (span (count p w) (count p v))
-unfolding slice
+pub piece-back : {w v t : List ℕ} {g : ℕ → List (List ℕ)} (p : ℕ) → Adds w v g → Later v t → p < poolTotal → count p t ≤ entryRoom p → Piece p (g p) t (poolSpan (count p w) (count p v))
+unfolding poolSlice
 piece-back {w} {v} {t} {g} p a b l h =
     let f : count p t ≤ room p = omega (arith, entry-room p) in
     let few : room p ≤ 2048 = inside p l .room in
     let fits : count p v ≤ room p = later-fits b p l f in
     let more : count p v ≡ count p w + length (g p) = omega (arith, a .counts p l) in
-    let start : span (count p w) (count p v) / 4096 ≡ length (view p w) =
+    let start : poolSpan (count p w) (count p v) / 4096 ≡ length (view p w) =
     span-start (count p w) (count p v) (omega arith) (omega arith) ∙ omega (arith, length-view p w) in
-    let size : span (count p w) (count p v) % 4096 ≡ length (g p) =
+    let size : poolSpan (count p w) (count p v) % 4096 ≡ length (g p) =
     span-count (count p w) (count p v) (omega arith) (omega arith) ∙ omega arith in
     let all : view p t ≡ (view p w ++ g p) ++ b .rest p =
     b .adds .views p l f ∙ ap (λ (x : List (List ℕ)). x ++ b .rest p) (a .views p l fits) in
@@ -204,12 +204,12 @@ Agree g [] = Unit {0}
 Agree g (num n ∷ cs) = Agree g cs
 Agree g (run p es ∷ cs) = (p < poolTotal) × (g p ≡ es) × Agree g cs
 
-agree-more : (p : ℕ) (es : List (List ℕ)) (c : List Cell) (cs : List Cell) → fresh p cs ≡ true → Agree (gained c) cs → Agree (gained (run p es ∷ c)) cs
-unfolding fresh
+agree-more : (p : ℕ) (es : List (List ℕ)) (c : List Cell) (cs : List Cell) → freshPool p cs ≡ true → Agree (gained c) cs → Agree (gained (run p es ∷ c)) cs
+unfolding freshPool
 agree-more p es c [] f h = tt
 agree-more p es c (num n ∷ cs) f h = agree-more p es c cs f h
 agree-more p es c (run q us ∷ cs) f h =
-    let a = both (not (eqb q p)) (fresh p cs) f in
+    let a = both (not (eqb q p)) (freshPool p cs) f in
     let n = eqb-false q p (not-true (eqb q p) (a .0)) in
     (h .0, gained-else p q es c (ne-eqb p q (λ e. n (sym e))) ∙ h .1, agree-more p es c cs (a .1) (h .2))
 
@@ -232,33 +232,33 @@ row-cells {w} {v} {t} {g} a b cs h = record { cell = cells cs h }
     cells (num n ∷ cs) h zero l = refl
     cells (num n ∷ cs) h (suc j) l = cells cs h j (le-of-suc-le-suc l)
     cells (run p es ∷ cs) h zero l =
-        λ f. subst (λ (es : List (List ℕ)). Piece p es t (span (count p w) (count p v))) (h .1) (piece-back p a b (h .0) f)
+        λ f. subst (λ (es : List (List ℕ)). Piece p es t (poolSpan (count p w) (count p v))) (h .1) (piece-back p a b (h .0) f)
     cells (run p es ∷ cs) h (suc j) l = cells cs (h .2) j (le-of-suc-le-suc l)
 
 -- a line's row is what the line says, at any later time
-pub line-back : {w t : List ℕ} (k : ℕ) (cs : List Cell) → Line k cs → AddsReady w → Later (keepLine k cs w) t → Row t (rowOf cs w (keepCells cs w)) cs
-unfolding keepLine
+pub line-back : {w t : List ℕ} (k : ℕ) (cs : List Cell) → Line k cs → AddsReady w → Later (keepRow k cs w) t → Row t (rowOf cs w (keepCells cs w)) cs
+unfolding keepRow
 line-back {w} k cs l r b =
     let a = adds-cells cs (l .lists) (l .wide) r in
     let p = adds-push k (rowOf cs w (keepCells cs w)) (ready-after r a) (l .pool) (length-row cs w (keepCells cs w) ∙ l .size) in
     row-cells a (later-then p b) cs (agree cs (l .lists))
 
 -- Rows and lines, one for one.
-pub data Each {A : Type 0} (P : List ℕ → A → Type 0) : List (List ℕ) → List A → Type 0 where
-  none : Each P [] []
-  more : {e : List ℕ} {es : List (List ℕ)} {a : A} {xs : List A} → P e a → Each P es xs → Each P (e ∷ es) (a ∷ xs)
+pub data RowsEach {A : Type 0} (P : List ℕ → A → Type 0) : List (List ℕ) → List A → Type 0 where
+  none : RowsEach P [] []
+  more : {e : List ℕ} {es : List (List ℕ)} {a : A} {xs : List A} → P e a → RowsEach P es xs → RowsEach P (e ∷ es) (a ∷ xs)
 
-pub each-length : {A : Type 0} {P : List ℕ → A → Type 0} {es : List (List ℕ)} {xs : List A} → Each P es xs → length es ≡ length xs
+pub each-length : {A : Type 0} {P : List ℕ → A → Type 0} {es : List (List ℕ)} {xs : List A} → RowsEach P es xs → length es ≡ length xs
 each-length none = refl
 each-length (more p r) = ap suc (each-length r)
 
-pub each-at : {A : Type 0} {P : List ℕ → A → Type 0} {es : List (List ℕ)} {xs : List A} → Each P es xs → (i : ℕ) (d : A) → i < length xs → P (getD es i []) (getD xs i d)
-each-at none i d h = absurd (not-suc-le-zero h)
-each-at (more p r) zero d h = p
-each-at (more p r) (suc i) d h = each-at r i d (le-of-suc-le-suc h)
+pub rows-each-at : {A : Type 0} {P : List ℕ → A → Type 0} {es : List (List ℕ)} {xs : List A} → RowsEach P es xs → (i : ℕ) (d : A) → i < length xs → P (getD es i []) (getD xs i d)
+rows-each-at none i d h = absurd (not-suc-le-zero h)
+rows-each-at (more p r) zero d h = p
+rows-each-at (more p r) (suc i) d h = rows-each-at r i d (le-of-suc-le-suc h)
 
 pub each-back : {A : Type 0} {P : List ℕ → A → Type 0} (f : List ℕ → A) (q : A → Bool) → ((e : List ℕ) (a : A) → P e a → q a ≡ true → f e ≡ a)
-    → {es : List (List ℕ)} {xs : List A} → Each P es xs → every q xs ≡ true → map f es ≡ xs
+    → {es : List (List ℕ)} {xs : List A} → RowsEach P es xs → every q xs ≡ true → map f es ≡ xs
 each-back f q h none t = refl
 each-back {A} f q h (more {e = e} {es = es} {a = a} {xs = xs} p r) t =
     let u = both (q a) (every q xs) t in
@@ -268,7 +268,7 @@ each-back {A} f q h (more {e = e} {es = es} {a = a} {xs = xs} p r) t =
 pub rows-back : {A : Type 0} (k : ℕ) (f : A → List ℕ → List ℕ) (g : A → List ℕ → ℕ → List (List ℕ)) → ((a : A) (w : List ℕ) → AddsReady w → Adds w (f a w) (g a w))
     → (row : A → List ℕ → List ℕ) → ((a : A) (w : List ℕ) → g a w k ≡ row a w ∷ [])
     → (P : List ℕ → A → Type 0) {t : List ℕ} → ((a : A) (w : List ℕ) → AddsReady w → Later (f a w) t → P (row a w) a)
-    → (xs : List A) (w : List ℕ) → AddsReady w → Later (folds f xs w) t → Each P (grown f g xs w k) xs
+    → (xs : List A) (w : List ℕ) → AddsReady w → Later (folds f xs w) t → RowsEach P (grown f g xs w k) xs
 unfolding grown folds
 rows-back k f g h row e P p [] w r b = none
 rows-back k f g h row e P p (a ∷ xs) w r b =

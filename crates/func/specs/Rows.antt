@@ -9,9 +9,9 @@ use Rattle.func.specs.declared.OpKind.{OpKind}
 use Rattle.func.specs.declared.Marks.{Marks}
 use Rattle.func.specs.Layout.{decls, values, imms, targets, nodeRefs, opRefs, childRefs, entries, regions, nodes, ops, ctrls}
 use Rattle.func.specs.Store.{count, push, folds}
-use Rattle.func.specs.Lines.{span, keepCells, rowOf, keepLine}
-use Rattle.func.specs.Keep.{immsOf, opcodeOf, nodeNumber, ctrlNumber, regionCells, nodeCells, opCells, entryCells, ctrlCells, keepDecl, keepValue, keepImm, keepTarget, keepNodeRef, keepOpRef, keepChild, keepRegion, keepNode, keepOp, keepEntry, ctrlRow, keepCtrl}
-use Rattle.func.specs.Kinds.{opKind, opKindNumber, opKindFirst, opKindSecond, op-number, op-first, op-second}
+use Rattle.func.specs.Lines.{poolSpan, keepCells, rowOf, keepRow}
+use Rattle.func.specs.Keep.{instImms, instOpcode, nodeNumber, ctrlNumber, regionCells, nodeCells, opCells, entryCells, ctrlCells, keepDecl, keepValue, keepImm, keepTarget, keepNodeRef, keepOpRef, keepChild, keepRegion, keepNode, keepOp, keepEntry, ctrlRow, keepCtrl}
+use Rattle.func.specs.Kinds.{kindOfOp, opKindNumber, opKindFirst, opKindSecond, op-number, op-first, op-second}
 
 -- the counts where a line begins
 abbrev pub marksOf : List ℕ → Marks
@@ -28,18 +28,18 @@ marksOf w = record {
 
 -- the rows
 unfoldable pub regionRow : Marks → List ℕ → List ℕ
-regionRow m v = push regions (span (m .decls) (count decls v) ∷ span (m .nodes) (count nodeRefs v) ∷ span (m .values) (count values v) ∷ []) v
+regionRow m v = push regions (poolSpan (m .decls) (count decls v) ∷ poolSpan (m .nodes) (count nodeRefs v) ∷ poolSpan (m .values) (count values v) ∷ []) v
 
 unfoldable pub nodeRow : Marks → ℕ → ℕ → ℕ → List ℕ → List ℕ
 nodeRow m kind opcode control v =
     push nodes
     (kind
     ∷ opcode
-    ∷ span (m .imms) (count imms v)
-    ∷ span (m .values) (count values v)
-    ∷ span (m .ops) (count opRefs v)
-    ∷ span (m .children) (count childRefs v)
-    ∷ span (m .decls) (count decls v)
+    ∷ poolSpan (m .imms) (count imms v)
+    ∷ poolSpan (m .values) (count values v)
+    ∷ poolSpan (m .ops) (count opRefs v)
+    ∷ poolSpan (m .children) (count childRefs v)
+    ∷ poolSpan (m .decls) (count decls v)
     ∷ control
     ∷ [])
     v
@@ -47,11 +47,11 @@ nodeRow m kind opcode control v =
 unfoldable pub opRow : Marks → ℕ → ℕ → OpKind → List ℕ → List ℕ
 opRow m attrs type kind v =
     push ops
-    (attrs ∷ type ∷ opKindNumber kind ∷ opKindFirst kind ∷ opKindSecond kind ∷ span (m .imms) (count imms v) ∷ span (m .values) (count values v) ∷ [])
+    (attrs ∷ type ∷ opKindNumber kind ∷ opKindFirst kind ∷ opKindSecond kind ∷ poolSpan (m .imms) (count imms v) ∷ poolSpan (m .values) (count values v) ∷ [])
     v
 
 unfoldable pub entryRow : Marks → ℕ → List ℕ → List ℕ
-entryRow m region v = push entries (region ∷ span (m .values) (count values v) ∷ []) v
+entryRow m region v = push entries (region ∷ poolSpan (m .values) (count values v) ∷ []) v
 
 unfoldable pub ctrlRowFrom : Marks → Marks → ℕ → ℕ → ℕ → ℕ → List ℕ → List ℕ
 ctrlRowFrom m n region attrs kind opcode u =
@@ -60,10 +60,10 @@ ctrlRowFrom m n region attrs kind opcode u =
     ∷ attrs
     ∷ kind
     ∷ opcode
-    ∷ span (m .imms) (n .imms)
-    ∷ span (m .values) (n .values)
-    ∷ span (m .targets) (n .targets)
-    ∷ span (n .entries) (count entries u)
+    ∷ poolSpan (m .imms) (n .imms)
+    ∷ poolSpan (m .values) (n .values)
+    ∷ poolSpan (m .targets) (n .targets)
+    ∷ poolSpan (n .entries) (count entries u)
     ∷ [])
     u
 
@@ -74,27 +74,27 @@ folds-map k f [] w = refl
 folds-map k f (x ∷ xs) w = folds-map k f xs (push k (f x) w)
 
 pub keepRegion-is : (r : Region) (w : List ℕ) → keepRegion r w ≡ regionRow (marksOf w) (folds keepValue (r .outs) (folds keepNodeRef (r .nodes) (folds keepDecl (r .ins) w)))
-unfolding keepRegion keepLine regionCells keepCells rowOf regionRow
+unfolding keepRegion keepRow regionCells keepCells rowOf regionRow
 keepRegion-is r w = simp folds-map
 
-pub keepNode-is : (n : Node) (w : List ℕ) → keepNode n w ≡ nodeRow (marksOf w) (nodeNumber n) (opcodeOf (nodeInsts n)) (nodeControl n)
-    (folds keepDecl (outsOf n) (folds keepChild (childrenOf n) (folds keepOpRef (blockOps n) (folds keepValue (nodeValues n) (folds keepImm (immsOf (nodeInsts n)) w)))))
-unfolding keepNode keepLine nodeCells keepCells rowOf nodeRow
+pub keepNode-is : (n : Node) (w : List ℕ) → keepNode n w ≡ nodeRow (marksOf w) (nodeNumber n) (instOpcode (nodeInsts n)) (nodeControl n)
+    (folds keepDecl (outsOf n) (folds keepChild (childrenOf n) (folds keepOpRef (blockOps n) (folds keepValue (nodeValues n) (folds keepImm (instImms (nodeInsts n)) w)))))
+unfolding keepNode keepRow nodeCells keepCells rowOf nodeRow
 keepNode-is n w = simp folds-map
 
-pub keepOp-is : (o : Op) (w : List ℕ) → keepOp o w ≡ opRow (marksOf w) (o .attrs) (o .type) (opKind (o .kind)) (folds keepValue (o .operands) (folds keepImm (immsOf (opInsts (o .kind))) w))
-unfolding keepOp keepLine opCells keepCells rowOf opRow
+pub keepOp-is : (o : Op) (w : List ℕ) → keepOp o w ≡ opRow (marksOf w) (o .attrs) (o .type) (kindOfOp (o .kind)) (folds keepValue (o .operands) (folds keepImm (instImms (opInsts (o .kind))) w))
+unfolding keepOp keepRow opCells keepCells rowOf opRow
 keepOp-is o w = simp (folds-map, op-number, op-first, op-second)
 
 pub keepEntry-is : (e : ℕ × List Value) (w : List ℕ) → keepEntry e w ≡ entryRow (marksOf w) (e .0) (folds keepValue (e .1) w)
-unfolding keepEntry keepLine entryCells keepCells rowOf entryRow
+unfolding keepEntry keepRow entryCells keepCells rowOf entryRow
 keepEntry-is e w = simp folds-map
 
 -- a ctrl line's own lists, and its row
 abbrev pub keepCtrlLists : ControlInst → List ℕ → List ℕ
-keepCtrlLists c w = folds keepTarget (c .to) (folds keepValue (c .ins) (folds keepImm (immsOf (ctrlInsts (c .kind))) w))
+keepCtrlLists c w = folds keepTarget (c .to) (folds keepValue (c .ins) (folds keepImm (instImms (ctrlInsts (c .kind))) w))
 
-pub keepCtrl-is : (c : ℕ × ControlInst) (w : List ℕ) → keepCtrl c w ≡ ctrlRowFrom (marksOf w) (marksOf (keepCtrlLists (c .1) w)) (c .0) (c .1 .attrs) (ctrlNumber (c .1 .kind)) (opcodeOf (ctrlInsts (c .1 .kind)))
+pub keepCtrl-is : (c : ℕ × ControlInst) (w : List ℕ) → keepCtrl c w ≡ ctrlRowFrom (marksOf w) (marksOf (keepCtrlLists (c .1) w)) (c .0) (c .1 .attrs) (ctrlNumber (c .1 .kind)) (instOpcode (ctrlInsts (c .1 .kind)))
     (folds keepEntry (c .1 .vals) (keepCtrlLists (c .1) w))
 unfolding keepCtrl ctrlRow ctrlCells keepCells rowOf ctrlRowFrom
 keepCtrl-is c w = simp folds-map

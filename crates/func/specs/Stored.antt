@@ -1,9 +1,9 @@
 -- What is stored of any text, whole or not: each pool's count, and each list that stands in a pool within its room, whatever the other pools
 -- are. Refusals 3 to 5 are judged by this. Assumes nothing.
 --     stored-func                      what is stored of any function is so
---     region-nodes, node-children      the nodes of a region and the child regions of a node
+--     stored-nodes, stored-children      the nodes of a region and the child regions of a node
 --     ins-count, outs-count, ..        how many elements a list of a region or of a node has
---     node-kind, op-type               the number of a node's kind, and an op's result type
+--     stored-kind, op-type               the number of a node's kind, and an op's result type
 use mathlib.Core.Path.{_≡_, refl, ap}
 use mathlib.Core.List.{List, [], _∷_, map}
 use Prim.Native.Nat.{ℕ, _+_, _%_, _≤_, _<_, min}
@@ -16,9 +16,9 @@ use Rattle.lifting.specs.Parts as text
 use Rattle.func.specs.Layout.{funcNeed, poolTotal, decls, values, nodeRefs, childRefs, entries, regions, nodes, ops, ctrls, entryRoom}
 use Rattle.func.specs.Store.{count, most, view}
 use Rattle.func.specs.Adds.{largest}
-use Rattle.func.specs.Lines.{Row, each-at, each-length}
-use Rattle.func.specs.Keep.{single, declWords, valueWords, nodeNumber, regionCells, nodeCells, opCells, keepFunc}
-use Rattle.func.specs.Decode.{numberOf}
+use Rattle.func.specs.Lines.{Row, rows-each-at, each-length}
+use Rattle.func.specs.Keep.{oneWord, declWords, valueWords, nodeNumber, regionCells, nodeCells, opCells, keepFunc}
+use Rattle.func.specs.Decode.{decodeNumber}
 use Rattle.func.specs.Whole.{Clear, adds-func, clear-head, collections, sizes, entryList, count-func, view-func, most-func, most-entries, most-ctrls}
 use Rattle.func.specs.Back.{Rows, rows-func, head-func}
 use Rattle.func.specs.Tables.{Listed, list-count, word, whole-pool, Within}
@@ -30,8 +30,8 @@ pub record Stored (F : Func) (w : List ℕ) : Type 0 where
   -- a pool of parts that is within its room, and the largest first words, whatever the room
   pub views : (k : ℕ) → k < 9 → getD (sizes F) k 0 ≤ entryRoom k → view k w ≡ getD (collections F) k []
   pub mosts : (k : ℕ) → k < 9 → most k w ≡ largest (getD (collections F) k [])
-  pub entry-most : most entries w ≡ largest (map (λ e. single (e .0)) (entryList F))
-  pub ctrl-most : most ctrls w ≡ largest (map (λ c. single (c .0)) (F .ctrls))
+  pub entry-most : most entries w ≡ largest (map (λ e. oneWord (e .0)) (entryList F))
+  pub ctrl-most : most ctrls w ≡ largest (map (λ c. oneWord (c .0)) (F .ctrls))
   pub rows : Rows F w
 
 pub stored-func : (F : Func) {w : List ℕ} → Clear w → Stored F (keepFunc F w)
@@ -52,15 +52,15 @@ module _ {F : Func} {w : List ℕ} (s : Stored F w) where
     region-in = record { size = s .size; pool = lit< tt; fits = f; below = omega (arith, each-length (s .rows .regions f), whole-pool regions w f) }
 
     region-at : Row w (getD (view regions w) r []) (regionCells (text.regionOf F r))
-    region-at = each-at (s .rows .regions f) r _ h
+    region-at = rows-each-at (s .rows .regions f) r _ h
 
     pub ins-count : count decls w ≤ entryRoom decls → word regions w r 0 % 4096 ≡ length (text.regionOf F r .ins)
     unfolding regionCells
     ins-count g = list-count {f = declWords} {xs = text.regionOf F r .ins} (record { size = s .size; fits = g; pool = lit< tt; piece = region-at .cell 0 (lit< tt) g })
 
-    pub region-nodes : count nodeRefs w ≤ entryRoom nodeRefs → Listed nodeRefs single (text.regionOf F r .nodes) w (word regions w r 1)
+    pub stored-nodes : count nodeRefs w ≤ entryRoom nodeRefs → Listed nodeRefs oneWord (text.regionOf F r .nodes) w (word regions w r 1)
     unfolding regionCells
-    region-nodes g = record { size = s .size; fits = g; pool = lit< tt; piece = region-at .cell 1 (lit< tt) g }
+    stored-nodes g = record { size = s .size; fits = g; pool = lit< tt; piece = region-at .cell 1 (lit< tt) g }
 
     pub results-count : count values w ≤ entryRoom values → word regions w r 2 % 4096 ≡ length (text.regionOf F r .outs)
     unfolding regionCells
@@ -71,19 +71,19 @@ module _ {F : Func} {w : List ℕ} (s : Stored F w) where
     node-in = record { size = s .size; pool = lit< tt; fits = f; below = omega (arith, each-length (s .rows .nodes f), whole-pool nodes w f) }
 
     node-at : Row w (getD (view nodes w) n []) (nodeCells (text.nodeOf F n))
-    node-at = each-at (s .rows .nodes f) n _ h
+    node-at = rows-each-at (s .rows .nodes f) n _ h
 
-    pub node-kind : word nodes w n 0 ≡ nodeNumber (text.nodeOf F n)
+    pub stored-kind : word nodes w n 0 ≡ nodeNumber (text.nodeOf F n)
     unfolding nodeCells
-    node-kind = node-at .cell 0 (lit< tt)
+    stored-kind = node-at .cell 0 (lit< tt)
 
     pub values-count : count values w ≤ entryRoom values → word nodes w n 3 % 4096 ≡ length (nodeValues (text.nodeOf F n))
     unfolding nodeCells
     values-count g = list-count {f = valueWords} {xs = nodeValues (text.nodeOf F n)} (record { size = s .size; fits = g; pool = lit< tt; piece = node-at .cell 3 (lit< tt) g })
 
-    pub node-children : count childRefs w ≤ entryRoom childRefs → Listed childRefs single (childrenOf (text.nodeOf F n)) w (word nodes w n 5)
+    pub stored-children : count childRefs w ≤ entryRoom childRefs → Listed childRefs oneWord (childrenOf (text.nodeOf F n)) w (word nodes w n 5)
     unfolding nodeCells
-    node-children g = record { size = s .size; fits = g; pool = lit< tt; piece = node-at .cell 5 (lit< tt) g }
+    stored-children g = record { size = s .size; fits = g; pool = lit< tt; piece = node-at .cell 5 (lit< tt) g }
 
     pub outs-count : count decls w ≤ entryRoom decls → word nodes w n 6 % 4096 ≡ length (outsOf (text.nodeOf F n))
     unfolding nodeCells
@@ -95,9 +95,9 @@ module _ {F : Func} {w : List ℕ} (s : Stored F w) where
 
     pub op-type : word ops w i 1 ≡ text.opOf F i .type
     unfolding opCells
-    op-type = each-at (s .rows .ops f) i _ h .cell 1 (lit< tt)
+    op-type = rows-each-at (s .rows .ops f) i _ h .cell 1 (lit< tt)
 
 -- the numbers of a pool of references, taken back out of their entries
-pub unsingle : (l : List ℕ) → map numberOf (map single l) ≡ l
+pub unsingle : (l : List ℕ) → map decodeNumber (map oneWord l) ≡ l
 unsingle [] = refl
 unsingle (x ∷ l) = ap (λ (m : List ℕ). x ∷ m) (unsingle l)

@@ -9,10 +9,10 @@ use mathlib.Core.List.{List, [], _∷_, _++_, map, append-nil}
 use Prim.Native.Nat.{ℕ, zero, suc, _+_, _-_, _≤_, _<_, min}
 use native.Mathlib.Omega.{arith}
 use lib.Dec.{eqb, ltb, lit<}
-use lib.ListN.{length, getD, replicate, getD-replicate, length-replicate, length-append, length-map}
-use lib.Seq.{length-sets}
+use lib.ListN.{length, getD, replicate, getD-replicate, length-append, length-map}
+use lib.Seq.{sets, length-sets}
 use borrow.Author.Tests.{ne-eqb, ltb-true, ltb-false}
-use Rattle.general_laws.specs.Part.{at-after}
+use Rattle.general_laws.specs.Part.{at-after, part-at, part-same}
 use Rattle.general_laws.specs.Tab.{tab}
 use Rattle.general_laws.specs.Lists.{gather}
 use Rattle.lifting.specs.Ast.{Value, Op, Decl, Node, Region, ControlInst, Const, Func}
@@ -20,9 +20,9 @@ use Rattle.lifting.specs.Parts as text
 use Rattle.general_laws.specs.Gather.{map-append, map-gather, gather-none, gather-append, gather-gather, gather-single}
 use Rattle.func.specs.Layout.{funcNeed, poolTotal, consts, params, decls, values, targets, entries, regions, nodes, ops, ctrls, room, entryRoom, entry-room}
 use Rattle.func.specs.Store.{count, most, entry, view, folds}
-use Rattle.func.specs.Adds.{AddsReady, Adds, ready-after, adds-then, into, adds-push, grown, adds-folds, grown-gather, grown-length, grown-none, largest, grown-largest}
+use Rattle.func.specs.Adds.{AddsReady, Adds, ready-after, adds-then, intoPool, adds-push, grown, adds-folds, grown-gather, grown-length, grown-none, largest, grown-largest}
 use Rattle.func.specs.Lines.{Cell, keepCells, rowOf, gained, lineGain}
-use Rattle.func.specs.Keep.{single, constWords, declWords, immWords, valueWords, regionCells, nodeCells, opCells, entryCells, ctrlCells, keepConst, keepParam, keepHead, keepRegion, keepNode, keepOp, keepEntry, ctrlRow, keepCtrl, keepFunc}
+use Rattle.func.specs.Keep.{oneWord, constWords, declWords, immWords, valueWords, regionCells, nodeCells, opCells, entryCells, ctrlCells, keepConst, keepParam, keepHead, keepRegion, keepNode, keepOp, keepEntry, ctrlRow, keepCtrl, keepFunc}
 use Rattle.func.specs.Gains.{const-wide, param-wide, rowFor, ctrlRowOf, gain, regionGain, nodeGain, opGain, entryGain, entriesGain, entries-at, ctrlGain, adds-region, adds-node, adds-op, adds-ctrl}
 
 -- words that a text may be stored to: every pool is empty
@@ -31,13 +31,29 @@ pub record Clear (w : List ℕ) : Type 0 where
   pub empty : (k : ℕ) → k < poolTotal → count k w ≡ 0
   pub least : (k : ℕ) → k < poolTotal → most k w ≡ 0
 
-pub clear-zeros : (n : ℕ) → funcNeed ≤ n → Clear (replicate n 0)
-unfolding count most
-clear-zeros n h = record {
-  size = omega (arith, length-replicate {A = ℕ} n 0);
-  empty = λ k l. getD-replicate n (4 + k) 0 0 (omega arith);
-  least = λ k l. getD-replicate n (18 + k) 0 0 (omega arith);
+-- the words w with every pool emptied: those below the pools are 0, and the others stay
+unfoldable pub emptyPools : List ℕ → List ℕ
+emptyPools w = sets w 0 (replicate 32 0)
+
+pub length-empty : (w : List ℕ) → length (emptyPools w) ≡ length w
+unfolding emptyPools
+length-empty w = length-sets w 0 (replicate 32 0)
+
+pub clear-empty : (w : List ℕ) → funcNeed ≤ length w → Clear (emptyPools w)
+unfolding emptyPools count most
+clear-empty w h = record {
+  size = omega (arith, length-empty w);
+  empty = λ k l. low (4 + k) (omega arith);
+  least = λ k l. low (18 + k) (omega arith);
 }
+  where
+    low : (x : ℕ) → x < 32 → getD (sets w 0 (replicate 32 0)) x 0 ≡ 0
+    low x l =
+        let e : x ≡ 0 + x = omega arith in
+        ap (λ (y : ℕ). getD (sets w 0 (replicate 32 0)) y 0) e
+        ∙ sym (part-at 0 32 (sets w 0 (replicate 32 0)) x l)
+        ∙ ap (λ (y : List ℕ). getD y x 0) (part-same 0 32 (replicate 32 0) w refl (omega arith))
+        ∙ getD-replicate 32 x 0 0 l
 
 pub clear-view : {w : List ℕ} → Clear w → (k : ℕ) → k < poolTotal → view k w ≡ []
 unfolding view tab
@@ -76,10 +92,10 @@ withOps F w = folds keepOp (F .ops) (withNodes F w)
 
 -- what each kind of lines gains
 unfoldable pub constGain : Const → List ℕ → ℕ → List (List ℕ)
-constGain c w = into consts (constWords c ∷ [])
+constGain c w = intoPool consts (constWords c ∷ [])
 
 unfoldable pub paramGain : Decl → List ℕ → ℕ → List (List ℕ)
-paramGain d w = into params (declWords d ∷ [])
+paramGain d w = intoPool params (declWords d ∷ [])
 
 module _ (F : Func) (w : List ℕ) where
   unfoldable pub constsGain : ℕ → List (List ℕ)
@@ -135,10 +151,10 @@ adds-func F c =
 
 -- A pool of parts gains what each line holds of its kind.
 plain : Func → ℕ → List (List ℕ)
-unfolding into gained
+unfolding intoPool gained
 plain F j =
-    gather (λ c. into consts (constWords c ∷ []) j) (F .consts)
-    ++ (gather (λ d. into params (declWords d ∷ []) j) (F .params)
+    gather (λ c. intoPool consts (constWords c ∷ []) j) (F .consts)
+    ++ (gather (λ d. intoPool params (declWords d ∷ []) j) (F .params)
     ++ (gather (λ r. gained (regionCells r) j) (F .regions)
     ++ (gather (λ n. gained (nodeCells n) j) (F .nodes)
     ++ (gather (λ o. gained (opCells o) j) (F .ops)
@@ -158,8 +174,8 @@ gain-plain : (F : Func) (w : List ℕ) (j : ℕ) → j < 9 → funcGain F w j �
 unfolding funcGain plain constsGain paramsGain regionsGain nodesGain opsGain ctrlsGain constGain paramGain
 gain-plain F w j h =
     rw (
-      grown-gather keepConst constGain (λ c. into consts (constWords c ∷ []) j) j (λ c w. refl) (F .consts) (headed F w),
-      grown-gather keepParam paramGain (λ d. into params (declWords d ∷ []) j) j (λ d w. refl) (F .params) (withConsts F w),
+      grown-gather keepConst constGain (λ c. intoPool consts (constWords c ∷ []) j) j (λ c w. refl) (F .consts) (headed F w),
+      grown-gather keepParam paramGain (λ d. intoPool params (declWords d ∷ []) j) j (λ d w. refl) (F .params) (withConsts F w),
       grown-gather keepRegion regionGain (λ r. gained (regionCells r) j) j (line-plain regions regionCells j (λ e. omega arith)) (F .regions) (withParams F w),
       grown-gather keepNode nodeGain (λ n. gained (nodeCells n) j) j (line-plain nodes nodeCells j (λ e. omega arith)) (F .nodes) (withRegions F w),
       grown-gather keepOp opGain (λ o. gained (opCells o) j) j (line-plain ops opCells j (λ e. omega arith)) (F .ops) (withNodes F w),
@@ -174,15 +190,15 @@ collections F =
     ∷ map declWords (text.decls F)
     ∷ map valueWords (text.values F)
     ∷ map immWords (text.immediates F)
-    ∷ map single (text.targets F)
-    ∷ map single (text.nodeList F)
-    ∷ map single (text.opList F)
-    ∷ map single (text.childList F)
+    ∷ map oneWord (text.targets F)
+    ∷ map oneWord (text.nodeList F)
+    ∷ map oneWord (text.opList F)
+    ∷ map oneWord (text.childList F)
     ∷ []
 
 -- a pool of parts gains its collection
 collected : (F : Func) (k : ℕ) → k < 9 → plain F k ≡ getD (collections F) k []
-unfolding plain into gained regionCells nodeCells opCells ctrlCells entryCells text.decls text.values text.insts text.immediates text.targets text.nodeList text.opList text.childList
+unfolding plain intoPool gained regionCells nodeCells opCells ctrlCells entryCells text.decls text.values text.insts text.immediates text.targets text.nodeList text.opList text.childList
 collected F zero h = simp (gather-none, gather-single, append-nil)
 collected F (suc zero) h = simp (gather-none, gather-single, append-nil)
 collected F (suc (suc zero)) h = simp (gather-none, append-nil, map-append, map-gather)
@@ -200,10 +216,10 @@ unfolding gained lineGain
 ctrlSized j c = elim (eqb ctrls j) [ true ↦ [] ∷ [] | false ↦ gained (ctrlCells c) j ++ gather (λ e. lineGain entries (entryCells e) [] j) (c .1 .vals) ]
 
 sized : Func → ℕ → List (List ℕ)
-unfolding into lineGain
+unfolding intoPool lineGain
 sized F j =
-    gather (λ c. into consts (constWords c ∷ []) j) (F .consts)
-    ++ (gather (λ d. into params (declWords d ∷ []) j) (F .params)
+    gather (λ c. intoPool consts (constWords c ∷ []) j) (F .consts)
+    ++ (gather (λ d. intoPool params (declWords d ∷ []) j) (F .params)
     ++ (gather (λ r. lineGain regions (regionCells r) [] j) (F .regions)
     ++ (gather (λ n. lineGain nodes (nodeCells n) [] j) (F .nodes)
     ++ (gather (λ o. lineGain ops (opCells o) [] j) (F .ops)
@@ -234,8 +250,8 @@ gain-sized F w j =
     simp length-append
     (omega (
       arith,
-      grown-length keepConst constGain (λ c. into consts (constWords c ∷ []) j) j (λ c w. refl) (F .consts) (headed F w),
-      grown-length keepParam paramGain (λ d. into params (declWords d ∷ []) j) j (λ d w. refl) (F .params) (withConsts F w),
+      grown-length keepConst constGain (λ c. intoPool consts (constWords c ∷ []) j) j (λ c w. refl) (F .consts) (headed F w),
+      grown-length keepParam paramGain (λ d. intoPool params (declWords d ∷ []) j) j (λ d w. refl) (F .params) (withConsts F w),
       grown-length keepRegion regionGain (λ r. lineGain regions (regionCells r) [] j) j (line-sized regions regionCells j) (F .regions) (withParams F w),
       grown-length keepNode nodeGain (λ n. lineGain nodes (nodeCells n) [] j) j (line-sized nodes nodeCells j) (F .nodes) (withRegions F w),
       grown-length keepOp opGain (λ o. lineGain ops (opCells o) [] j) j (line-sized ops opCells j) (F .ops) (withNodes F w),
@@ -276,7 +292,7 @@ ctrls-none j h [] = refl
 ctrls-none j h (c ∷ cs) = rw (h c) (ctrls-none j h cs)
 
 rows-sized : (F : Func) (k : ℕ) → k < 5 → length (sized F (9 + k)) ≡ getD (sizes F) (9 + k) 0
-unfolding sized ctrlSized into lineGain gained regionCells nodeCells opCells ctrlCells entryCells entryList
+unfolding sized ctrlSized intoPool lineGain gained regionCells nodeCells opCells ctrlCells entryCells entryList
 rows-sized F zero h = simp (gather-none) (entries-sized (F .ctrls))
 rows-sized F (suc zero) h = simp (gather-none, append-nil, gather-single, length-append, length-map) (omega (arith, ctrls-none regions (λ c. gather-none (c .1 .vals)) (F .ctrls)))
 rows-sized F (suc (suc zero)) h = simp (gather-none, append-nil, gather-single, length-append, length-map) (omega (arith, ctrls-none nodes (λ c. gather-none (c .1 .vals)) (F .ctrls)))
@@ -290,10 +306,10 @@ parts-sized F (suc zero) h = length-map (F .params) declWords
 parts-sized F (suc (suc zero)) h = length-map (text.decls F) declWords
 parts-sized F (suc (suc (suc zero))) h = length-map (text.values F) valueWords
 parts-sized F (suc (suc (suc (suc zero)))) h = length-map (text.immediates F) immWords
-parts-sized F (suc (suc (suc (suc (suc zero))))) h = length-map (text.targets F) single
-parts-sized F (suc (suc (suc (suc (suc (suc zero)))))) h = length-map (text.nodeList F) single
-parts-sized F (suc (suc (suc (suc (suc (suc (suc zero))))))) h = length-map (text.opList F) single
-parts-sized F (suc (suc (suc (suc (suc (suc (suc (suc zero)))))))) h = length-map (text.childList F) single
+parts-sized F (suc (suc (suc (suc (suc zero))))) h = length-map (text.targets F) oneWord
+parts-sized F (suc (suc (suc (suc (suc (suc zero)))))) h = length-map (text.nodeList F) oneWord
+parts-sized F (suc (suc (suc (suc (suc (suc (suc zero))))))) h = length-map (text.opList F) oneWord
+parts-sized F (suc (suc (suc (suc (suc (suc (suc (suc zero)))))))) h = length-map (text.childList F) oneWord
 parts-sized F (suc (suc (suc (suc (suc (suc (suc (suc (suc k))))))))) h = absurd (omega arith)
 
 -- THE count law
@@ -351,12 +367,12 @@ module _ (F : Func) (w : List ℕ) where
   ctrl-rows k h = grown-none keepCtrl ctrlGain k h (F .ctrls) (withOps F w)
 
   gain-entries : funcGain F w entries ≡ ctrlsGain F w entries
-  unfolding funcGain constGain paramGain into gain lineGain gained regionCells nodeCells opCells
+  unfolding funcGain constGain paramGain intoPool gain lineGain gained regionCells nodeCells opCells
   gain-entries =
       rw (const-rows entries (λ c w. refl), param-rows entries (λ d w. refl), region-rows entries (λ r w. refl), node-rows entries (λ n w. refl), op-rows entries (λ o w. refl))
 
   pub gain-regions : funcGain F w regions ≡ regionsGain F w regions
-  unfolding funcGain constGain paramGain into gain lineGain gained nodeCells opCells entryCells ctrlCells ctrlGain
+  unfolding funcGain constGain paramGain intoPool gain lineGain gained nodeCells opCells entryCells ctrlCells ctrlGain
   gain-regions =
       rw (
         const-rows regions (λ c w. refl),
@@ -368,7 +384,7 @@ module _ (F : Func) (w : List ℕ) where
       (append-nil (regionsGain F w regions))
 
   pub gain-nodes : funcGain F w nodes ≡ nodesGain F w nodes
-  unfolding funcGain constGain paramGain into gain lineGain gained regionCells opCells entryCells ctrlCells ctrlGain
+  unfolding funcGain constGain paramGain intoPool gain lineGain gained regionCells opCells entryCells ctrlCells ctrlGain
   gain-nodes =
       rw (
         const-rows nodes (λ c w. refl),
@@ -380,7 +396,7 @@ module _ (F : Func) (w : List ℕ) where
       (append-nil (nodesGain F w nodes))
 
   pub gain-ops : funcGain F w ops ≡ opsGain F w ops
-  unfolding funcGain constGain paramGain into gain lineGain gained regionCells nodeCells entryCells ctrlCells ctrlGain
+  unfolding funcGain constGain paramGain intoPool gain lineGain gained regionCells nodeCells entryCells ctrlCells ctrlGain
   gain-ops =
       rw (
         const-rows ops (λ c w. refl),
@@ -392,7 +408,7 @@ module _ (F : Func) (w : List ℕ) where
       (append-nil (opsGain F w ops))
 
   pub gain-ctrls : funcGain F w ctrls ≡ ctrlsGain F w ctrls
-  unfolding funcGain constGain paramGain into gain lineGain gained regionCells nodeCells opCells
+  unfolding funcGain constGain paramGain intoPool gain lineGain gained regionCells nodeCells opCells
   gain-ctrls =
       rw (const-rows ctrls (λ c w. refl), param-rows ctrls (λ d w. refl), region-rows ctrls (λ r w. refl), node-rows ctrls (λ n w. refl), op-rows ctrls (λ o w. refl))
 
@@ -401,24 +417,24 @@ pub most-func : (F : Func) {w : List ℕ} → Clear w → (k : ℕ) → k < 9 �
 most-func F {w} c k l =
     omega (arith, adds-func F c .mosts k (omega arith), clear-head F c .least k (omega arith), ap largest (gain-plain F w k l ∙ collected F k l))
 
-entry-regions : (c : ℕ × ControlInst) (w : List ℕ) → largest (ctrlGain c w entries) ≡ largest (gather (λ e. single (e .0) ∷ []) (c .1 .vals))
+entry-regions : (c : ℕ × ControlInst) (w : List ℕ) → largest (ctrlGain c w entries) ≡ largest (gather (λ e. oneWord (e .0) ∷ []) (c .1 .vals))
 unfolding ctrlGain gained ctrlCells entriesGain gain lineGain rowFor entryCells rowOf
-entry-regions c w = grown-largest keepEntry entryGain (λ e. single (e .0) ∷ []) entries (λ e w. refl) (c .1 .vals) (keepCells (ctrlCells c) w)
+entry-regions c w = grown-largest keepEntry entryGain (λ e. oneWord (e .0) ∷ []) entries (λ e w. refl) (c .1 .vals) (keepCells (ctrlCells c) w)
 
-pub most-entries : (F : Func) {w : List ℕ} → Clear w → most entries (keepFunc F w) ≡ largest (map (λ e. single (e .0)) (entryList F))
+pub most-entries : (F : Func) {w : List ℕ} → Clear w → most entries (keepFunc F w) ≡ largest (map (λ e. oneWord (e .0)) (entryList F))
 unfolding ctrlsGain entryList
 most-entries F {w} c =
-    let g : largest (funcGain F w entries) ≡ largest (map (λ e. single (e .0)) (entryList F)) =
+    let g : largest (funcGain F w entries) ≡ largest (map (λ e. oneWord (e .0)) (entryList F)) =
     ap largest (gain-entries F w)
-    ∙ grown-largest keepCtrl ctrlGain (λ c. gather (λ e. single (e .0) ∷ []) (c .1 .vals)) entries entry-regions (F .ctrls) (withOps F w)
-    ∙ ap largest (sym (gather-gather (λ e. single (e .0) ∷ []) (λ c. c .1 .vals) (F .ctrls)) ∙ gather-single (λ e. single (e .0)) (gather (λ c. c .1 .vals) (F .ctrls))) in
+    ∙ grown-largest keepCtrl ctrlGain (λ c. gather (λ e. oneWord (e .0) ∷ []) (c .1 .vals)) entries entry-regions (F .ctrls) (withOps F w)
+    ∙ ap largest (sym (gather-gather (λ e. oneWord (e .0) ∷ []) (λ c. c .1 .vals) (F .ctrls)) ∙ gather-single (λ e. oneWord (e .0)) (gather (λ c. c .1 .vals) (F .ctrls))) in
     omega (arith, adds-func F c .mosts entries (lit< tt), clear-head F c .least entries (lit< tt))
 
-pub most-ctrls : (F : Func) {w : List ℕ} → Clear w → most ctrls (keepFunc F w) ≡ largest (map (λ c. single (c .0)) (F .ctrls))
+pub most-ctrls : (F : Func) {w : List ℕ} → Clear w → most ctrls (keepFunc F w) ≡ largest (map (λ c. oneWord (c .0)) (F .ctrls))
 unfolding ctrlsGain ctrlGain ctrlRowOf ctrlRow ctrlCells rowOf
 most-ctrls F {w} c =
-    let g : largest (funcGain F w ctrls) ≡ largest (map (λ c. single (c .0)) (F .ctrls)) =
+    let g : largest (funcGain F w ctrls) ≡ largest (map (λ c. oneWord (c .0)) (F .ctrls)) =
     ap largest (gain-ctrls F w)
-    ∙ grown-largest keepCtrl ctrlGain (λ c. single (c .0) ∷ []) ctrls (λ c w. refl) (F .ctrls) (withOps F w)
-    ∙ ap largest (gather-single (λ c. single (c .0)) (F .ctrls)) in
+    ∙ grown-largest keepCtrl ctrlGain (λ c. oneWord (c .0) ∷ []) ctrls (λ c w. refl) (F .ctrls) (withOps F w)
+    ∙ ap largest (gather-single (λ c. oneWord (c .0)) (F .ctrls)) in
     omega (arith, adds-func F c .mosts ctrls (lit< tt), clear-head F c .least ctrls (lit< tt))

@@ -24,9 +24,9 @@ use Rattle.general_laws.specs.Members.{In, All, in-within}
 use Rattle.general_laws.specs.Tests.{both, every-in, every-all, all-split, distinct-once}
 use Rattle.func.specs.Whole.{Clear, entryList}
 use Rattle.func.specs.Keep.{keepFunc}
-use Rattle.func.specs.Back.{kept, RowFits, Limits, limits-of}
+use Rattle.func.specs.Back.{firstFits, RowFits, Limits, limits-of}
 use Rattle.func.specs.Tables.{Tables, tables-func}
-use Rattle.func_fits.specs.Fewer.{fewer, fewer-below}
+use Rattle.general_laws.specs.Fewer.{fewer, fewer-below}
 
 -- a line that holds something is one of the list's
 line-below : {A : Type 0} (l : List A) (d : A) (f : A → ℕ) → f d ≡ 0 → (n : ℕ) → 0 < f (getD l n d) → n < length l
@@ -35,7 +35,7 @@ line-below (x ∷ l) d f z zero h = omega arith
 line-below (x ∷ l) d f z (suc n) h = omega (arith, line-below l d f z n h)
 
 -- the first number of a value that names something is that of a line
-first-kept : (F : Func) → Limits F → (v : Value) → named F v ≡ true → kept v ≡ true
+first-kept : (F : Func) → Limits F → (v : Value) → named F v ≡ true → firstFits v ≡ true
 first-kept F m (const n) e = le-leb n 65535 (omega (arith, ltb-true n _ e, m .consts))
 first-kept F m (regionInput r i) e =
     let h = ltb-true i _ e in
@@ -154,7 +154,7 @@ module _ (F : Func) (limits : withinLimits F ≡ true) (references : referencesH
         childRefs = omega (arith, m .regions, fewer-below (length (F .regions)) (text.childList F) (distinct-once (text.childList F) (o .children)) (b .children));
         entries = few .entries;
         ctrls = few .ctrls;
-        firsts = every-more (named F) kept (first-kept F m) (text.values F) (b .values);
+        firsts = every-more (named F) firstFits (first-kept F m) (text.values F) (b .values);
       }
 
   pub few-control : controlFits F ≡ true → Few F

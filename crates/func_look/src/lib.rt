@@ -30,12 +30,12 @@ ghost use Prim.Native.Nat.{_<_};
 ghost use lib.ListN.{length, getD};
 ghost use Rattle.func.specs.Layout.{decls, values, imms, targets, nodeRefs, opRefs, childRefs};
 ghost use Rattle.func.specs.Store.{view};
-ghost use Rattle.func.specs.Keep.{immsOf, opcodeOf};
+ghost use Rattle.func.specs.Keep.{instImms, instOpcode};
 ghost use Rattle.lifting.specs.Ast.{const};
 ghost use Rattle.lifting.specs.Parts.{constOf, regionOf, nodeOf, opOf, nodeValues, nodeInsts, blockOps, childrenOf, outsOf, nodeControl, opInsts, ctrlInsts};
-ghost use Rattle.func.specs.Decode.{numberOf, declOf, immOf, valueFrom, valueOf, funcOf};
-ghost use Rattle.func.specs.Tables.{Tables, Within, paramOf, ctrlLine, entryOf};
-ghost use Rattle.func.specs.Kinds.{asDecl, asImm, nodeKind, opKind, ctrlKind, nodeKindFrom, opKindFrom, ctrlKindFrom, declFrom, immFrom, asValue};
+ghost use Rattle.func.specs.Decode.{decodeNumber, decodeDecl, decodeImm, valueFrom, valueOf, funcOf};
+ghost use Rattle.func.specs.Tables.{Tables, Within, paramOf, ctrlLineOf, entryOf};
+ghost use Rattle.func.specs.Kinds.{declOfSlot, asImm, nodeKind, kindOfOp, ctrlKind, nodeKindFrom, opKindFrom, ctrlKindFrom, declFrom, immFrom, asValue};
 
 // Value i of the pool.
 pub fn value(func: &[u32], i: usize) -> Val
@@ -50,7 +50,7 @@ pub fn value(func: &[u32], i: usize) -> Val
 // Input or output i of the pool.
 pub fn decl(func: &[u32], i: usize) -> Slot
     requires { ⌜ Within decls (now func) i ⌝ }
-    ensures { λ r. ⌜ asDecl r ≡ declOf (getD (view decls (now (func .entry))) i []) ⌝ }
+    ensures { λ r. ⌜ declOfSlot r ≡ decodeDecl (getD (view decls (now (func .entry))) i []) ⌝ }
 {
     Slot {
         attrs: word(func, DECLS, i, 0),
@@ -61,7 +61,7 @@ pub fn decl(func: &[u32], i: usize) -> Slot
 // Immediate i of the pool.
 pub fn imm(func: &[u32], i: usize) -> Immediate
     requires { ⌜ Within imms (now func) i ⌝ }
-    ensures { λ r. ⌜ asImm r ≡ immOf (getD (view imms (now (func .entry))) i []) ⌝ }
+    ensures { λ r. ⌜ asImm r ≡ decodeImm (getD (view imms (now (func .entry))) i []) ⌝ }
 {
     Immediate {
         kind: word(func, IMMS, i, 0),
@@ -73,7 +73,7 @@ pub fn imm(func: &[u32], i: usize) -> Immediate
 // Ctrl target i of the pool.
 pub fn target_ref(func: &[u32], i: usize) -> usize
     requires { ⌜ Within targets (now func) i ⌝ }
-    ensures { λ r. ⌜ r ≡ numberOf (getD (view targets (now (func .entry))) i []) ⌝ }
+    ensures { λ r. ⌜ r ≡ decodeNumber (getD (view targets (now (func .entry))) i []) ⌝ }
 {
     wide(word(func, TARGETS, i, 0))
 }
@@ -81,7 +81,7 @@ pub fn target_ref(func: &[u32], i: usize) -> usize
 // Number i of the pool of node lists.
 pub fn node_ref(func: &[u32], i: usize) -> usize
     requires { ⌜ Within nodeRefs (now func) i ⌝ }
-    ensures { λ r. ⌜ r ≡ numberOf (getD (view nodeRefs (now (func .entry))) i []) ⌝ }
+    ensures { λ r. ⌜ r ≡ decodeNumber (getD (view nodeRefs (now (func .entry))) i []) ⌝ }
 {
     wide(word(func, NODE_REFS, i, 0))
 }
@@ -89,7 +89,7 @@ pub fn node_ref(func: &[u32], i: usize) -> usize
 // Number i of the pool of op lists.
 pub fn op_ref(func: &[u32], i: usize) -> usize
     requires { ⌜ Within opRefs (now func) i ⌝ }
-    ensures { λ r. ⌜ r ≡ numberOf (getD (view opRefs (now (func .entry))) i []) ⌝ }
+    ensures { λ r. ⌜ r ≡ decodeNumber (getD (view opRefs (now (func .entry))) i []) ⌝ }
 {
     wide(word(func, OP_REFS, i, 0))
 }
@@ -97,7 +97,7 @@ pub fn op_ref(func: &[u32], i: usize) -> usize
 // Number i of the pool of child regions.
 pub fn child_ref(func: &[u32], i: usize) -> usize
     requires { ⌜ Within childRefs (now func) i ⌝ }
-    ensures { λ r. ⌜ r ≡ numberOf (getD (view childRefs (now (func .entry))) i []) ⌝ }
+    ensures { λ r. ⌜ r ≡ decodeNumber (getD (view childRefs (now (func .entry))) i []) ⌝ }
 {
     wide(word(func, CHILD_REFS, i, 0))
 }
@@ -279,7 +279,7 @@ pub fn region_in(func: &[u32], r: usize, i: usize) -> Slot
     requires { ⌜ Tables (now func) ⌝ }
     requires { ⌜ r < length (funcOf (now func) .regions) ⌝ }
     requires { ⌜ i < length (regionOf (funcOf (now func)) r .ins) ⌝ }
-    ensures { λ x. ⌜ asDecl x ≡ getD (regionOf (funcOf (now (func .entry))) r .ins) i (declFrom 0 0) ⌝ }
+    ensures { λ x. ⌜ declOfSlot x ≡ getD (regionOf (funcOf (now (func .entry))) r .ins) i (declFrom 0 0) ⌝ }
 {
     decl(func, run_at(func, REGIONS, r, 0, i))
 }
@@ -335,7 +335,7 @@ pub fn node_kind(func: &[u32], n: usize) -> NodeKind
 pub fn node_opcode(func: &[u32], n: usize) -> u32
     requires { ⌜ Tables (now func) ⌝ }
     requires { ⌜ n < length (funcOf (now func) .nodes) ⌝ }
-    ensures { λ x. ⌜ x ≡ opcodeOf (nodeInsts (nodeOf (funcOf (now (func .entry))) n)) ⌝ }
+    ensures { λ x. ⌜ x ≡ instOpcode (nodeInsts (nodeOf (funcOf (now (func .entry))) n)) ⌝ }
 {
     word(func, NODES, n, 1)
 }
@@ -353,7 +353,7 @@ pub fn node_control(func: &[u32], n: usize) -> u32
 pub fn node_imm_count(func: &[u32], n: usize) -> usize
     requires { ⌜ Tables (now func) ⌝ }
     requires { ⌜ n < length (funcOf (now func) .nodes) ⌝ }
-    ensures { λ x. ⌜ x ≡ length (immsOf (nodeInsts (nodeOf (funcOf (now (func .entry))) n))) ⌝ }
+    ensures { λ x. ⌜ x ≡ length (instImms (nodeInsts (nodeOf (funcOf (now (func .entry))) n))) ⌝ }
 {
     run_count(func, NODES, n, 2)
 }
@@ -362,8 +362,8 @@ pub fn node_imm_count(func: &[u32], n: usize) -> usize
 pub fn node_imm(func: &[u32], n: usize, i: usize) -> Immediate
     requires { ⌜ Tables (now func) ⌝ }
     requires { ⌜ n < length (funcOf (now func) .nodes) ⌝ }
-    requires { ⌜ i < length (immsOf (nodeInsts (nodeOf (funcOf (now func)) n))) ⌝ }
-    ensures { λ x. ⌜ asImm x ≡ getD (immsOf (nodeInsts (nodeOf (funcOf (now (func .entry))) n))) i (immFrom 0 0 0) ⌝ }
+    requires { ⌜ i < length (instImms (nodeInsts (nodeOf (funcOf (now func)) n))) ⌝ }
+    ensures { λ x. ⌜ asImm x ≡ getD (instImms (nodeInsts (nodeOf (funcOf (now (func .entry))) n))) i (immFrom 0 0 0) ⌝ }
 {
     imm(func, run_at(func, NODES, n, 2, i))
 }
@@ -439,7 +439,7 @@ pub fn node_out(func: &[u32], n: usize, i: usize) -> Slot
     requires { ⌜ Tables (now func) ⌝ }
     requires { ⌜ n < length (funcOf (now func) .nodes) ⌝ }
     requires { ⌜ i < length (outsOf (nodeOf (funcOf (now func)) n)) ⌝ }
-    ensures { λ x. ⌜ asDecl x ≡ getD (outsOf (nodeOf (funcOf (now (func .entry))) n)) i (declFrom 0 0) ⌝ }
+    ensures { λ x. ⌜ declOfSlot x ≡ getD (outsOf (nodeOf (funcOf (now (func .entry))) n)) i (declFrom 0 0) ⌝ }
 {
     decl(func, run_at(func, NODES, n, 6, i))
 }
@@ -466,7 +466,7 @@ pub fn op_type(func: &[u32], o: usize) -> u32
 pub fn op_kind(func: &[u32], o: usize) -> OpKind
     requires { ⌜ Tables (now func) ⌝ }
     requires { ⌜ o < length (funcOf (now func) .ops) ⌝ }
-    ensures { λ x. ⌜ x ≡ opKind (opOf (funcOf (now (func .entry))) o .kind) ⌝ }
+    ensures { λ x. ⌜ x ≡ kindOfOp (opOf (funcOf (now (func .entry))) o .kind) ⌝ }
 {
     op_kind_of(
         word(func, OPS, o, 2),
@@ -479,7 +479,7 @@ pub fn op_kind(func: &[u32], o: usize) -> OpKind
 pub fn op_imm_count(func: &[u32], o: usize) -> usize
     requires { ⌜ Tables (now func) ⌝ }
     requires { ⌜ o < length (funcOf (now func) .ops) ⌝ }
-    ensures { λ x. ⌜ x ≡ length (immsOf (opInsts (opOf (funcOf (now (func .entry))) o .kind))) ⌝ }
+    ensures { λ x. ⌜ x ≡ length (instImms (opInsts (opOf (funcOf (now (func .entry))) o .kind))) ⌝ }
 {
     run_count(func, OPS, o, 5)
 }
@@ -488,8 +488,8 @@ pub fn op_imm_count(func: &[u32], o: usize) -> usize
 pub fn op_imm(func: &[u32], o: usize, i: usize) -> Immediate
     requires { ⌜ Tables (now func) ⌝ }
     requires { ⌜ o < length (funcOf (now func) .ops) ⌝ }
-    requires { ⌜ i < length (immsOf (opInsts (opOf (funcOf (now func)) o .kind))) ⌝ }
-    ensures { λ x. ⌜ asImm x ≡ getD (immsOf (opInsts (opOf (funcOf (now (func .entry))) o .kind))) i (immFrom 0 0 0) ⌝ }
+    requires { ⌜ i < length (instImms (opInsts (opOf (funcOf (now func)) o .kind))) ⌝ }
+    ensures { λ x. ⌜ asImm x ≡ getD (instImms (opInsts (opOf (funcOf (now (func .entry))) o .kind))) i (immFrom 0 0 0) ⌝ }
 {
     imm(func, run_at(func, OPS, o, 5, i))
 }
@@ -517,7 +517,7 @@ pub fn operand(func: &[u32], o: usize, i: usize) -> Val
 pub fn ctrl_region(func: &[u32], c: usize) -> usize
     requires { ⌜ Tables (now func) ⌝ }
     requires { ⌜ c < length (funcOf (now func) .ctrls) ⌝ }
-    ensures { λ x. ⌜ x ≡ ctrlLine (funcOf (now (func .entry))) c .0 ⌝ }
+    ensures { λ x. ⌜ x ≡ ctrlLineOf (funcOf (now (func .entry))) c .0 ⌝ }
 {
     wide(word(func, CTRLS, c, 0))
 }
@@ -526,7 +526,7 @@ pub fn ctrl_region(func: &[u32], c: usize) -> usize
 pub fn ctrl_attrs(func: &[u32], c: usize) -> u32
     requires { ⌜ Tables (now func) ⌝ }
     requires { ⌜ c < length (funcOf (now func) .ctrls) ⌝ }
-    ensures { λ x. ⌜ x ≡ ctrlLine (funcOf (now (func .entry))) c .1 .attrs ⌝ }
+    ensures { λ x. ⌜ x ≡ ctrlLineOf (funcOf (now (func .entry))) c .1 .attrs ⌝ }
 {
     word(func, CTRLS, c, 1)
 }
@@ -535,7 +535,7 @@ pub fn ctrl_attrs(func: &[u32], c: usize) -> u32
 pub fn ctrl_kind(func: &[u32], c: usize) -> CtrlKind
     requires { ⌜ Tables (now func) ⌝ }
     requires { ⌜ c < length (funcOf (now func) .ctrls) ⌝ }
-    ensures { λ x. ⌜ x ≡ ctrlKind (ctrlLine (funcOf (now (func .entry))) c .1 .kind) ⌝ }
+    ensures { λ x. ⌜ x ≡ ctrlKind (ctrlLineOf (funcOf (now (func .entry))) c .1 .kind) ⌝ }
 {
     ctrl_kind_of(word(func, CTRLS, c, 2))
 }
@@ -544,7 +544,7 @@ pub fn ctrl_kind(func: &[u32], c: usize) -> CtrlKind
 pub fn ctrl_opcode(func: &[u32], c: usize) -> u32
     requires { ⌜ Tables (now func) ⌝ }
     requires { ⌜ c < length (funcOf (now func) .ctrls) ⌝ }
-    ensures { λ x. ⌜ x ≡ opcodeOf (ctrlInsts (ctrlLine (funcOf (now (func .entry))) c .1 .kind)) ⌝ }
+    ensures { λ x. ⌜ x ≡ instOpcode (ctrlInsts (ctrlLineOf (funcOf (now (func .entry))) c .1 .kind)) ⌝ }
 {
     word(func, CTRLS, c, 3)
 }
@@ -553,7 +553,7 @@ pub fn ctrl_opcode(func: &[u32], c: usize) -> u32
 pub fn ctrl_imm_count(func: &[u32], c: usize) -> usize
     requires { ⌜ Tables (now func) ⌝ }
     requires { ⌜ c < length (funcOf (now func) .ctrls) ⌝ }
-    ensures { λ x. ⌜ x ≡ length (immsOf (ctrlInsts (ctrlLine (funcOf (now (func .entry))) c .1 .kind))) ⌝ }
+    ensures { λ x. ⌜ x ≡ length (instImms (ctrlInsts (ctrlLineOf (funcOf (now (func .entry))) c .1 .kind))) ⌝ }
 {
     run_count(func, CTRLS, c, 4)
 }
@@ -562,8 +562,8 @@ pub fn ctrl_imm_count(func: &[u32], c: usize) -> usize
 pub fn ctrl_imm(func: &[u32], c: usize, i: usize) -> Immediate
     requires { ⌜ Tables (now func) ⌝ }
     requires { ⌜ c < length (funcOf (now func) .ctrls) ⌝ }
-    requires { ⌜ i < length (immsOf (ctrlInsts (ctrlLine (funcOf (now func)) c .1 .kind))) ⌝ }
-    ensures { λ x. ⌜ asImm x ≡ getD (immsOf (ctrlInsts (ctrlLine (funcOf (now (func .entry))) c .1 .kind))) i (immFrom 0 0 0) ⌝ }
+    requires { ⌜ i < length (instImms (ctrlInsts (ctrlLineOf (funcOf (now func)) c .1 .kind))) ⌝ }
+    ensures { λ x. ⌜ asImm x ≡ getD (instImms (ctrlInsts (ctrlLineOf (funcOf (now (func .entry))) c .1 .kind))) i (immFrom 0 0 0) ⌝ }
 {
     imm(func, run_at(func, CTRLS, c, 4, i))
 }
@@ -572,7 +572,7 @@ pub fn ctrl_imm(func: &[u32], c: usize, i: usize) -> Immediate
 pub fn ctrl_in_count(func: &[u32], c: usize) -> usize
     requires { ⌜ Tables (now func) ⌝ }
     requires { ⌜ c < length (funcOf (now func) .ctrls) ⌝ }
-    ensures { λ x. ⌜ x ≡ length (ctrlLine (funcOf (now (func .entry))) c .1 .ins) ⌝ }
+    ensures { λ x. ⌜ x ≡ length (ctrlLineOf (funcOf (now (func .entry))) c .1 .ins) ⌝ }
 {
     run_count(func, CTRLS, c, 5)
 }
@@ -581,8 +581,8 @@ pub fn ctrl_in_count(func: &[u32], c: usize) -> usize
 pub fn ctrl_in(func: &[u32], c: usize, i: usize) -> Val
     requires { ⌜ Tables (now func) ⌝ }
     requires { ⌜ c < length (funcOf (now func) .ctrls) ⌝ }
-    requires { ⌜ i < length (ctrlLine (funcOf (now func)) c .1 .ins) ⌝ }
-    ensures { λ x. ⌜ asValue x ≡ getD (ctrlLine (funcOf (now (func .entry))) c .1 .ins) i (const 0) ⌝ }
+    requires { ⌜ i < length (ctrlLineOf (funcOf (now func)) c .1 .ins) ⌝ }
+    ensures { λ x. ⌜ asValue x ≡ getD (ctrlLineOf (funcOf (now (func .entry))) c .1 .ins) i (const 0) ⌝ }
 {
     value(func, run_at(func, CTRLS, c, 5, i))
 }
@@ -591,7 +591,7 @@ pub fn ctrl_in(func: &[u32], c: usize, i: usize) -> Val
 pub fn target_count(func: &[u32], c: usize) -> usize
     requires { ⌜ Tables (now func) ⌝ }
     requires { ⌜ c < length (funcOf (now func) .ctrls) ⌝ }
-    ensures { λ x. ⌜ x ≡ length (ctrlLine (funcOf (now (func .entry))) c .1 .to) ⌝ }
+    ensures { λ x. ⌜ x ≡ length (ctrlLineOf (funcOf (now (func .entry))) c .1 .to) ⌝ }
 {
     run_count(func, CTRLS, c, 6)
 }
@@ -600,8 +600,8 @@ pub fn target_count(func: &[u32], c: usize) -> usize
 pub fn target(func: &[u32], c: usize, i: usize) -> usize
     requires { ⌜ Tables (now func) ⌝ }
     requires { ⌜ c < length (funcOf (now func) .ctrls) ⌝ }
-    requires { ⌜ i < length (ctrlLine (funcOf (now func)) c .1 .to) ⌝ }
-    ensures { λ x. ⌜ x ≡ getD (ctrlLine (funcOf (now (func .entry))) c .1 .to) i 0 ⌝ }
+    requires { ⌜ i < length (ctrlLineOf (funcOf (now func)) c .1 .to) ⌝ }
+    ensures { λ x. ⌜ x ≡ getD (ctrlLineOf (funcOf (now (func .entry))) c .1 .to) i 0 ⌝ }
 {
     target_ref(func, run_at(func, CTRLS, c, 6, i))
 }
@@ -610,7 +610,7 @@ pub fn target(func: &[u32], c: usize, i: usize) -> usize
 pub fn entry_count(func: &[u32], c: usize) -> usize
     requires { ⌜ Tables (now func) ⌝ }
     requires { ⌜ c < length (funcOf (now func) .ctrls) ⌝ }
-    ensures { λ x. ⌜ x ≡ length (ctrlLine (funcOf (now (func .entry))) c .1 .vals) ⌝ }
+    ensures { λ x. ⌜ x ≡ length (ctrlLineOf (funcOf (now (func .entry))) c .1 .vals) ⌝ }
 {
     run_count(func, CTRLS, c, 7)
 }
@@ -619,7 +619,7 @@ pub fn entry_count(func: &[u32], c: usize) -> usize
 pub fn entry_region(func: &[u32], c: usize, e: usize) -> usize
     requires { ⌜ Tables (now func) ⌝ }
     requires { ⌜ c < length (funcOf (now func) .ctrls) ⌝ }
-    requires { ⌜ e < length (ctrlLine (funcOf (now func)) c .1 .vals) ⌝ }
+    requires { ⌜ e < length (ctrlLineOf (funcOf (now func)) c .1 .vals) ⌝ }
     ensures { λ x. ⌜ x ≡ entryOf (funcOf (now (func .entry))) c e .0 ⌝ }
 {
     wide(word(func, ENTRIES, run_at(func, CTRLS, c, 7, e), 0))
@@ -629,7 +629,7 @@ pub fn entry_region(func: &[u32], c: usize, e: usize) -> usize
 pub fn entry_value(func: &[u32], c: usize, e: usize, i: usize) -> Val
     requires { ⌜ Tables (now func) ⌝ }
     requires { ⌜ c < length (funcOf (now func) .ctrls) ⌝ }
-    requires { ⌜ e < length (ctrlLine (funcOf (now func)) c .1 .vals) ⌝ }
+    requires { ⌜ e < length (ctrlLineOf (funcOf (now func)) c .1 .vals) ⌝ }
     requires { ⌜ i < length (entryOf (funcOf (now func)) c e .1) ⌝ }
     ensures { λ x. ⌜ asValue x ≡ getD (entryOf (funcOf (now (func .entry))) c e .1) i (const 0) ⌝ }
 {

@@ -10,11 +10,12 @@ use refusals::limits::MAX_TARGETS;
 use refusals::limits::MAX_VALUES;
 ghost use mathlib.Core.Path.{_≡_};
 ghost use Prim.Native.Nat.{_+_, _*_, _/_, _%_, _<_, _≤_, min};
-ghost use lib.ListN.{length, replicate};
+ghost use lib.ListN.{length};
 ghost use lib.Seq.{sets};
 ghost use Rattle.func.specs.Layout.{funcNeed, poolTotal, entryWords, base, width, room};
 ghost use Rattle.func.specs.Store.{count, most, place, raise, push};
 ghost use Rattle.func.specs.Tables.{Within, word};
+ghost use Rattle.func.specs.Whole.{emptyPools};
 
 // The pools' numbers.
 pub const CONSTS: usize = 0;
@@ -110,17 +111,6 @@ fn spot(k: usize, i: usize) -> usize
     base(k) + i * width(k)
 }
 
-// Every word is 0.
-pub fn clear(func: &mut [u32])
-    ensures { λ _. ⌜ now (func .exit) ≡ replicate (length (now (func .entry))) 0 ⌝ }
-{
-    let mut i = 0;
-    while i < func.len() {
-        func[i] = 0;
-        i += 1;
-    }
-}
-
 // A run of words, stored from `at` on.
 pub fn store(func: &mut [u32], at: usize, e: &[u32])
     requires { ⌜ at + length (now e) ≤ length (now func) ⌝ }
@@ -132,6 +122,15 @@ pub fn store(func: &mut [u32], at: usize, e: &[u32])
         func[at + i] = e[i];
         i += 1;
     }
+}
+
+// Every pool is empty.
+pub fn empty(func: &mut [u32])
+    requires { ⌜ funcNeed ≤ length (now func) ⌝ }
+    ensures { λ _. ⌜ now (func .exit) ≡ emptyPools (now (func .entry)) ⌝ }
+{
+    let zeros = [0u32; 32];
+    store(func, 0, &zeros);
 }
 
 // An entry of pool k: stored where there is room, else counted.

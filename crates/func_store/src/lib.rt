@@ -1,9 +1,8 @@
-// What reading a text stores: each part as it is met, and the row of each line after its lists.
+// What reading a text stores but for values: each part as it is met, and the row of each line after its lists.
 use func::CtrlKind;
 use func::Marks;
 use func::NodeKind;
 use func::OpKind;
-use func::Val;
 use func_pools::CHILD_REFS;
 use func_pools::CONSTS;
 use func_pools::CTRLS;
@@ -27,9 +26,9 @@ ghost use Prim.Native.Nat.{_<_, _≤_};
 ghost use lib.ListN.{length};
 ghost use Rattle.func.specs.Layout.{funcNeed, poolTotal, entryWords, values};
 ghost use Rattle.func.specs.Store.{count, push};
-ghost use Rattle.func.specs.Lines.{span};
-ghost use Rattle.func.specs.Keep.{pairWords, keepHead, keepConst, keepParam, keepDecl, keepValue, keepImm, keepNumber};
-ghost use Rattle.func.specs.Kinds.{constFrom, declFrom, immFrom, asValue, nodeKindNumber, opKindNumber, opKindFirst, opKindSecond, ctrlKindNumber};
+ghost use Rattle.func.specs.Lines.{poolSpan};
+ghost use Rattle.func.specs.Keep.{keepHead, keepConst, keepParam, keepDecl, keepImm, keepNumber};
+ghost use Rattle.func.specs.Kinds.{constFrom, declFrom, immFrom, nodeKindNumber, opKindNumber, opKindFirst, opKindSecond, ctrlKindNumber};
 ghost use Rattle.func.specs.Rows.{marksOf, regionRow, nodeRow, opRow, entryRow, ctrlRowFrom};
 
 // The three words of an op's kind.
@@ -132,29 +131,6 @@ pub fn keep_number(func: &mut [u32], k: usize, n: u32)
     push(func, k, &[n]);
 }
 
-// A value's kind and first number in one word, its second number in the next.
-fn keep_pair(func: &mut [u32], kind: u32, a: u32, b: u32)
-    requires { ⌜ (funcNeed ≤ length (now func)) × (kind < 4) ⌝ }
-    ensures { λ _. ⌜ now (func .exit) ≡ push values (pairWords kind a b) (now (func .entry)) ⌝ }
-    ensures { λ _. ⌜ length (now (func .exit)) ≡ length (now (func .entry)) ⌝ }
-{
-    push(func, VALUES, &[kind * 65536 + least(a, 65535), b]);
-}
-
-// A value: constant, input of a region, output of a node, result of an op.
-pub fn keep_value(func: &mut [u32], v: Val)
-    requires { ⌜ funcNeed ≤ length (now func) ⌝ }
-    ensures { λ _. ⌜ now (func .exit) ≡ keepValue (asValue v) (now (func .entry)) ⌝ }
-    ensures { λ _. ⌜ length (now (func .exit)) ≡ length (now (func .entry)) ⌝ }
-{
-    match v {
-        Val::Const(n) => keep_pair(func, 0, n, 0),
-        Val::Input(r, i) => keep_pair(func, 1, r, i),
-        Val::Output(n, i) => keep_pair(func, 2, n, i),
-        Val::Result(i) => keep_pair(func, 3, i, 0),
-    }
-}
-
 // `(func A R F C)`.
 pub fn keep_head(func: &mut [u32], a: u32, r: u32, f: u32, c: u32)
     requires { ⌜ funcNeed ≤ length (now func) ⌝ }
@@ -183,7 +159,7 @@ pub fn begin(func: &[u32]) -> Marks
 
 // A run's word, from the count before its list and the count after it.
 fn span(a: u32, b: u32) -> u32
-    ensures { λ r. ⌜ r ≡ span a b ⌝ }
+    ensures { λ r. ⌜ r ≡ poolSpan a b ⌝ }
 {
     let from = least(a, 4095);
     let to = least(b, 4095);
@@ -197,7 +173,7 @@ fn span(a: u32, b: u32) -> u32
 // The run of pool k from a count on.
 fn run(func: &[u32], k: usize, from: u32) -> u32
     requires { ⌜ (funcNeed ≤ length (now func)) × (k < poolTotal) ⌝ }
-    ensures { λ r. ⌜ r ≡ span from (count k (now (func .entry))) ⌝ }
+    ensures { λ r. ⌜ r ≡ poolSpan from (count k (now (func .entry))) ⌝ }
 {
     span(from, count(func, k))
 }

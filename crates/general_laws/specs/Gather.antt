@@ -2,7 +2,7 @@
 --     both, every-at, every-true, every-split, every-parts     a test that passes at every element
 --     map-append, map-gather                                     a map over what was put together
 --     gather-none, gather-single, gather-append, gather-gather   what is gathered
---     back                                                       decoding undoes encoding, element by element
+--     map-back                                                       decoding undoes encoding, element by element
 use mathlib.Core.Path.{_≡_, refl, sym, ap, ap₂, _∙_}
 use mathlib.Core.Bool.{Bool, true}
 use mathlib.Core.List.{List, [], _∷_, _++_, map, append-assoc}
@@ -34,11 +34,11 @@ pub gather-gather : {A B C : Type 0} (f : B → List C) (g : A → List B) (xs :
 gather-gather f g [] = refl
 gather-gather {C = C} f g (x ∷ xs) = gather-append f (g x) (gather g xs) ∙ ap (λ (l : List C). gather f (g x) ++ l) (gather-gather f g xs)
 
-pub back : {A B : Type 0} (f : A → B) (g : B → A) (p : A → Bool) → ((a : A) → p a ≡ true → g (f a) ≡ a) → (xs : List A) → every p xs ≡ true → map g (map f xs) ≡ xs
-back f g p h [] e = refl
-back {A} f g p h (x ∷ xs) e =
+pub map-back : {A B : Type 0} (f : A → B) (g : B → A) (p : A → Bool) → ((a : A) → p a ≡ true → g (f a) ≡ a) → (xs : List A) → every p xs ≡ true → map g (map f xs) ≡ xs
+map-back f g p h [] e = refl
+map-back {A} f g p h (x ∷ xs) e =
     let q = both (p x) (every p xs) e in
-    ap (λ (a : A). a ∷ map g (map f xs)) (h x (q .0)) ∙ ap (λ (l : List A). x ∷ l) (back f g p h xs (q .1))
+    ap (λ (a : A). a ∷ map g (map f xs)) (h x (q .0)) ∙ ap (λ (l : List A). x ∷ l) (map-back f g p h xs (q .1))
 
 pub gather-same : {A B : Type 0} (f g : A → List B) → ((x : A) → f x ≡ g x) → (l : List A) → gather f l ≡ gather g l
 gather-same f g h [] = refl

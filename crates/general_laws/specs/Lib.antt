@@ -3,6 +3,7 @@ pub mod Gather
 pub mod Lists
 pub mod Members
 pub mod Tests
+pub mod Fewer
 pub mod Part
 pub mod Tab
 pub mod Every

@@ -4,15 +4,19 @@
 --     part-same                   a run written over a whole table is the view
 --     at-before, at-after         a word outside a run that was written
 --     run-more                    a loop that stores a run one word a turn
+--     lastPlace, sat, sets-..     stores past the end, and a run behind another
 -- Assumes nothing.
 use mathlib.Core.Path.{_≡_, refl, sym, ap, subst, _∙_}
+use mathlib.Core.Bool.{Bool, true, false}
 use mathlib.Core.List.{List, [], _∷_, _++_, append-nil}
 use Prim.Native.Nat.{ℕ, suc, _+_, _-_, _≤_, _<_}
 use native.Mathlib.Nat.{add-suc, suc-add, add-zero}
 use native.Mathlib.Numerals.{add-one}
 use native.Mathlib.Omega.{arith}
-use lib.ListN.{length, take, drop, set, getD, length-take, length-drop}
-use lib.Seq.{sets, sets-eq, length-take-le, take-suc, drop-length, getD-take, getD-drop, take-set-le, drop-set-lt, drop-set-add, take-set-lt, getD-set-other}
+use lib.Dec.{leb}
+use lib.ListN.{length, take, drop, set, getD, length-set, length-take, length-drop}
+use lib.Seq.{sets, sets-eq, set-out, length-sets, length-take-le, take-suc, drop-length, getD-take, getD-drop, take-set-le, drop-set-lt, drop-set-add, take-set-lt, getD-set-other}
+use borrow.Author.Tests.{leb-true, leb-false}
 
 -- the `size` words from `base` on
 unfoldable pub part : ℕ → ℕ → List ℕ → List ℕ
@@ -93,3 +97,30 @@ run-more w vs a k h =
     ap (λ (n : ℕ). sets (sets w a (take k vs)) (a + n) (getD vs k 0 ∷ [])) (sym l)
     ∙ sets-sets w (take k vs) (getD vs k 0 ∷ []) a
     ∙ ap (sets w a) (sym (take-suc vs k 0 h) ∙ ap (λ (n : ℕ). take n vs) (sym (add-one k)))
+
+-- ---- places: what is stored past the end is lost, and a place stays at the largest number of 64 bits
+
+abbrev pub lastPlace : ℕ
+lastPlace = 18446744073709551615
+
+-- a place, at most the last one
+abbrev pub sat : ℕ → ℕ
+sat n = n - (n - lastPlace)
+
+pub sets-out : (vs w : List ℕ) (a : ℕ) → length w ≤ a → sets w a vs ≡ w
+sets-out [] w a h = refl
+sets-out (v ∷ vs) w a h = sets-out vs (set w a v) (suc a) (omega (arith, length-set w a v)) ∙ set-out w a v h
+
+-- a run behind another, at a place that stays at the last one
+pub sets-sat : (w xs ys : List ℕ) (a : ℕ) → length w ≤ lastPlace → sets (sets w a xs) (sat (a + length xs)) ys ≡ sets w a (xs ++ ys)
+sets-sat w xs ys a h = go (leb (a + length xs) lastPlace) refl
+  where
+    go : (t : Bool) → leb (a + length xs) lastPlace ≡ t → sets (sets w a xs) (sat (a + length xs)) ys ≡ sets w a (xs ++ ys)
+    go true e =
+        let l = leb-true (a + length xs) lastPlace e in
+        ap (λ (k : ℕ). sets (sets w a xs) k ys) (omega arith) ∙ sets-sets w xs ys a
+    go false e =
+        let g = leb-false (a + length xs) lastPlace e in
+        sets-out ys (sets w a xs) (sat (a + length xs)) (omega (arith, length-sets w a xs))
+        ∙ sym (sets-out ys (sets w a xs) (a + length xs) (omega (arith, length-sets w a xs)))
+        ∙ sets-sets w xs ys a

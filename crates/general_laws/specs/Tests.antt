@@ -12,6 +12,11 @@ use borrow.Author.Tests.{not-true}
 use Rattle.general_laws.specs.Lists.{choose, tabulate, below, every, gather, within, distinct, find}
 use Rattle.general_laws.specs.Members.{In, here, there, in-nil, in-cases, in-left, in-right, in-map, in-getD, in-gather, in-tabulate, All, all-append, all-in, all-from, NoDup, not-within}
 
+-- by a decision
+abbrev pub split : {P A : Type 0} → Dec P → (P → A) → (¬ P → A) → A
+split (yes p) f g = f p
+split (no n) f g = g n
+
 pub both : (a b : Bool) → a && b ≡ true → (a ≡ true) × (b ≡ true)
 both true b e = (refl, e)
 both false b e = absurd (false≢true e)
@@ -22,6 +27,10 @@ every-in p l e x (there {y} {l = k} h) = every-in p k (both (p y) (every p k) e 
 
 pub every-all : {A : Type 0} (p : A → Bool) (P : A → Type 0) → ((x : A) → p x ≡ true → P x) → (l : List A) → every p l ≡ true → All P l
 every-all p P h l e = all-from P l (λ x i. h x (every-in p l e x i))
+
+pub all-every : {A : Type 0} (p : A → Bool) (l : List A) → All (λ x. p x ≡ true) l → every p l ≡ true
+all-every p [] h = refl
+all-every p (x ∷ l) h = rw (h .0) (all-every p l (h .1))
 
 -- of each number, and at each number where the default has it
 pub all-tabulate : {A : Type 0} (P : A → Type 0) (f : ℕ → A) (k n : ℕ) → ((i : ℕ) → i < k + n → P (f i)) → All P (tabulate f k n)

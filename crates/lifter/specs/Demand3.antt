@@ -35,8 +35,8 @@ use Rattle.lifting_blocks.specs.Below.{IdsBelow}
 use Rattle.lifting_blocks.specs.Labels.{LabelsDiffer}
 use Rattle.lifting_blocks.specs.Merges.{OwnControl}
 use Rattle.lifting_blocks.specs.Demand2.{list-below, list-controls, list-ids, list-labels, list-phis}
-use Rattle.emitter.specs.declared.Lifted.the-variants.{Whole}
-use Rattle.emitter.specs.Emit.{gives, outcome, told}
+use Rattle.results.specs.declared.Lifted.the-variants.{Whole}
+use Rattle.emit_output.specs.Emit.{gives, outcome, told}
 
 -- an answer that gives n words is their list
 list-of : (a : Answer) (n next : ℕ) → gives n next ≡ outcome a → (ws : List ℕ) × (a ≡ listed ws next) × (n ≡ length ws)

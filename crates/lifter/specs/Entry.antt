@@ -2,14 +2,14 @@
 --     answerTo                      the answer to a text, a first id and three lent slices
 --     wanted, wantedTo              the count of words of the text's list, which refusal 11 tells
 --     early, tabled                 a refusal of 8, 1 to 7 and 13, and what a function in its tables is lifted to
---     scratch-tables                both scratch slices end as zeros once the text is read
+--     EndsClear, clear-..           both scratch slices end as zeros, but for refusal 8
 use mathlib.Core.Path.{_≡_, refl, ap}
 use mathlib.Core.Bool.{Bool, true, false}
 use mathlib.Core.List.{List}
 use Prim.Native.Nat.{ℕ}
-use lib.Dec.{leb}
+use lib.Dec.{eqb, leb}
 use lib.ListN.{length, replicate}
-use Rattle.refusals.specs.declared.Refusal.the-variants.{Ids, Values, Output}
+use Rattle.refusals.specs.declared.Refusal.the-variants.{Scratch, Ids, Values, Output}
 use Rattle.refusals.specs.Numbers.{refusalNumber}
 use Rattle.lifting.specs.Ast.{Func}
 use Rattle.lifting.specs.Walk.{walkOf}
@@ -17,7 +17,7 @@ use Rattle.lifting.specs.Absorb.{kept}
 use Rattle.lifting.specs.Ids.{nextId}
 use Rattle.lifting.specs.Instructions.{listOf}
 use Rattle.lifting.specs.Words.{words}
-use Rattle.lifting.specs.Answer.{Answer, Parsed, answer, denied, idsFit, lifted, listed, parse, parsed, refused, scratchAfter, valuesSet, written}
+use Rattle.lifting.specs.Answer.{Answer, Parsed, answer, denied, idsFit, lifted, listed, parse, parsed, refused, scratchAfter, valuesSet, written, zerosUnless8}
 
 -- The answer goes by the text's bytes, the first id, and the lengths of the three slices that are lent: function slice, work slice, output slice.
 abbrev pub answerTo : List ℕ → ℕ → List ℕ → List ℕ → List ℕ → Answer
@@ -39,12 +39,22 @@ wanted text first func work = wantedBy (parse text func work) first
 abbrev pub wantedTo : List ℕ → ℕ → List ℕ → List ℕ → ℕ
 wantedTo text first func work = wanted text first (length func) (length work)
 
+-- ---- what the scratch slices hold at the end
+
+-- both end as zeros
+abbrev pub EndsClear : Answer → Type 0
+EndsClear a = (w : List ℕ) → scratchAfter a w ≡ replicate (length w) 0
+
+-- so it is after every refusal but 8
+pub clear-refused : (n : ℕ) → eqb n (refusalNumber Scratch) ≡ false → EndsClear (refused n)
+clear-refused n e w = ap (λ (b : Bool). zerosUnless8 b w) e
+
 -- ---- the function in its tables
 
 module _ (F : Func) (first out : ℕ) where
-  pub scratch-tables : (w : List ℕ) → scratchAfter (lifted (parsed F) first out) w ≡ replicate (length w) 0
+  pub clear-tables : EndsClear (lifted (parsed F) first out)
   unfolding lifted written
-  scratch-tables w = go (idsFit F first) (valuesSet F) (leb (length (words (listOf F first))) out)
+  clear-tables w = go (idsFit F first) (valuesSet F) (leb (length (words (listOf F first))) out)
     where
       go : (a b c : Bool)
           → scratchAfter (elim a as (λ x. Answer) [ false ↦ refused (refusalNumber Ids) | true ↦ elim b as (λ x. Answer) [ false ↦ refused (refusalNumber Values) | true ↦ elim c as (λ x. Answer) [ false ↦ refused (refusalNumber Output) | true ↦ listed (words (listOf F first)) (nextId F first (walkOf F) (kept (walkOf F))) ] ] ]) w

@@ -1,33 +1,34 @@
 // The entry: from the lent text to the words of its list, or a refusal.
-use check_text::Parsed;
-use emitter::Lifted;
 use emitter::emit;
-use func_pools::clear;
+use reader::enough;
+use reader::judge;
+use refusals::Refusal;
+use results::Lifted;
+use results::Parsed;
+use work::clear_all;
 ghost use mathlib.Core.Path.{_≡_};
 ghost use Prim.Native.Nat.{_≤_};
-ghost use lib.ListN.{length, replicate};
-ghost use Rattle.lifting.specs.Instructions.{listOf};
-ghost use Rattle.lifting.specs.Words.{words};
-ghost use Rattle.lifting.specs.Answer.{lifted, outAfter, parsed, scratchAfter};
-ghost use Rattle.func.specs.Decode.{funcOf};
-ghost use Rattle.work.specs.Layout.{workNeed};
-ghost use Rattle.check_text.specs.Same.{Stands};
-ghost use Rattle.emitter.specs.Emit.{Gives, Wants, outcome, told};
-ghost use Rattle.lifter.specs.Entry.{answerTo, wantedTo};
+ghost use lib.ListN.{length};
+ghost use Rattle.lifting.specs.Limits.{funcWords, workWords};
+ghost use Rattle.lifting.specs.Answer.{outAfter, scratchAfter};
+ghost use Rattle.emit_output.specs.Emit.{Gives, Wants, outcome, told};
+ghost use Rattle.lifter.specs.Entry.{EndsClear, answerTo, wantedTo};
 
-// From the tables, which are cleared then.
-fn from_tables(first: u32, func: &mut [u32], work: &mut [u32], out: &mut [u32]) -> Lifted
-    requires { ⌜ Stands (funcOf (now func)) (now func) ⌝ }
-    requires { ⌜ (workNeed ≤ length (now work)) × (now work ≡ replicate (length (now work)) 0) ⌝ }
-    ensures { λ r. ⌜ Gives (lifted (parsed (funcOf (now (func .entry)))) first (length (now (out .entry)))) r (now (out .entry)) (now (out .exit)) ⌝ }
-    ensures { λ _. ⌜ now (func .exit) ≡ replicate (length (now (func .entry))) 0 ⌝ }
-    ensures { λ _. ⌜ now (work .exit) ≡ replicate (length (now (work .entry))) 0 ⌝ }
-    ensures wanted { λ r. ⌜ Wants (length (words (listOf (funcOf (now (func .entry))) first))) r ⌝ }
+// The text is judged and lifted over whatever the scratch slices held. They keep what was read and laid out there, and what is answered asks that they
+// end as zeros.
+fn lift(text: &[u8], first: u32, func: &mut [u32], work: &mut [u32], out: &mut [u32]) -> Lifted
+    requires { ⌜ (funcWords ≤ length (now func)) × (workWords ≤ length (now work)) ⌝ }
+    ensures { λ r. ⌜ Gives (answerTo (now (text .entry)) first (now (func .entry)) (now (work .entry)) (now (out .entry))) r (now (out .entry)) (now (out .exit)) ⌝ }
+    ensures { λ _. ⌜ EndsClear (answerTo (now (text .entry)) first (now (func .entry)) (now (work .entry)) (now (out .entry))) ⌝ }
+    ensures { λ _. ⌜ length (now (func .exit)) ≡ length (now (func .entry)) ⌝ }
+    ensures { λ _. ⌜ length (now (work .exit)) ≡ length (now (work .entry)) ⌝ }
+    ensures wanted { λ r. ⌜ Wants (wantedTo (now (text .entry)) first (now (func .entry)) (now (work .entry))) r ⌝ }
 {
-    let r = emit(func, work, out, first);
-    clear(func);
-    clear(work);
-    r
+    let p = judge(text, func, work);
+    match p {
+        Parsed::Refused(r) => Lifted::Refused(r, 0),
+        Parsed::Function => emit(func, work, out, first),
+    }
 }
 
 // The list of the text stands in the output slice, and its count of words and the next free id are given; or the first refusal that holds, in the
@@ -46,9 +47,11 @@ pub fn lift_function(
     ensures out_slice { λ _. ⌜ now (out .exit) ≡ outAfter (answerTo (now (text .entry)) first (now (func .entry)) (now (work .entry)) (now (out .entry))) (now (out .entry)) ⌝ }
     ensures wanted { λ r. ⌜ Wants (wantedTo (now (text .entry)) first (now (func .entry)) (now (work .entry))) r ⌝ }
 {
-    let p = reader::parse(text, func, work);
-    match p {
-        Parsed::Refused(r) => Lifted::Refused(r, 0),
-        Parsed::Function => from_tables(first, func, work, out),
+    if !enough(func, work) {
+        return Lifted::Refused(Refusal::Scratch, 0);
     }
+    let r = lift(text, first, func, work, out);
+    clear_all(func);
+    clear_all(work);
+    r
 }

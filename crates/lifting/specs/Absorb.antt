@@ -24,13 +24,13 @@ abbrev pub uses : Table → CfgPoint → ℕ
 uses [] q = 0
 uses (x ∷ T) q = countIn q (labels (x .1 .term)) + uses T q
 
-abbrev pub one : CfgPoint → CfgPoint → ℕ
-one q p = choose (eqPoint q p) 1 0
+abbrev pub countOne : CfgPoint → CfgPoint → ℕ
+countOne q p = choose (eqPoint q p) 1 0
 
 -- one for the first point
 abbrev pub firstUse : Table → CfgPoint → ℕ
 firstUse [] q = 0
-firstUse (x ∷ T) q = one q (x .0)
+firstUse (x ∷ T) q = countOne q (x .0)
 
 -- Uses of a point: one for the first point, one per target, one per merge label.
 unfoldable pub useCount : Table → CfgPoint → ℕ
@@ -57,13 +57,13 @@ ifNoMerge noMerge o = o
 ifNoMerge (selectionMerge a u) o = none
 ifNoMerge (loopMerge a b u) o = none
 
-abbrev pub single : List CfgPoint → Option CfgPoint
-single [] = none
-single (p ∷ []) = some p
-single (p ∷ q ∷ l) = none
+abbrev pub theOnly : List CfgPoint → Option CfgPoint
+theOnly [] = none
+theOnly (p ∷ []) = some p
+theOnly (p ∷ q ∷ l) = none
 
 abbrev pub soleTarget : Terminator → Option CfgPoint
-soleTarget t = ifZero (t .attrs) (ifBranch (t .kind) (ifEmpty (t .ins) (ifEmpty (t .vals) (ifNoMerge (t .merge) (single (t .targets))))))
+soleTarget t = ifZero (t .attrs) (ifBranch (t .kind) (ifEmpty (t .ins) (ifEmpty (t .vals) (ifNoMerge (t .merge) (theOnly (t .targets))))))
 
 -- its ops belong to the block that absorbed it
 abbrev pub emptied : BlockLifting → BlockLifting

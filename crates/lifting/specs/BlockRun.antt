@@ -38,9 +38,9 @@ parts [] = record { before = []; blocks = [] }
 parts (i ∷ l) = addPart i (parts l)
 
 -- the parameters' ids
-abbrev pub paramsIn : List Instruction → List ℕ
-paramsIn [] = []
-paramsIn (i ∷ l) = cond (isKind FunctionParameter i) (i .result ∷ paramsIn l) (paramsIn l)
+abbrev pub paramIds : List Instruction → List ℕ
+paramIds [] = []
+paramIds (i ∷ l) = cond (isKind FunctionParameter i) (i .result ∷ paramIds l) (paramIds l)
 
 -- In an emitted block the last instruction is the way out, whatever its opcode. What stands before it, other than label, phis and merge, is
 -- ops, again whatever the opcode.
@@ -73,9 +73,9 @@ results [] = []
 results (i ∷ l) = i .result ∷ results l
 
 -- The labels among its ids are its targets, the other ids its inputs.
-abbrev pub labelsIn : List ℕ → List ℕ → List ℕ
-labelsIn L [] = []
-labelsIn L (x ∷ l) = consIf (within x L) x (labelsIn L l)
+abbrev pub labelsAmong : List ℕ → List ℕ → List ℕ
+labelsAmong L [] = []
+labelsAmong L (x ∷ l) = consIf (within x L) x (labelsAmong L l)
 
 abbrev pub othersIn : List ℕ → List ℕ → List ℕ
 othersIn L [] = []
@@ -157,7 +157,7 @@ module _ {Val : Type 0} (W : World Val) where
 
     -- The way out reads its inputs.
     abbrev pub wayOut : ℕ → Instruction → Mem Val ℕ → Out (BlockState Val) (End Val)
-    wayOut l i m = reading (reads (m .env) (othersIn (keys bs) (i .ids))) (λ vs. wayBy l i (labelsIn (keys bs) (i .ids)) vs m)
+    wayOut l i m = reading (reads (m .env) (othersIn (keys bs) (i .ids))) (λ vs. wayBy l i (labelsAmong (keys bs) (i .ids)) vs m)
 
     abbrev pub doInsts : List Instruction → ℕ → Mem Val ℕ → Out (BlockState Val) (End Val)
     doInsts [] l m = halt stuck
@@ -173,7 +173,7 @@ module _ {Val : Type 0} (W : World Val) where
   -- at first the constants' ids, which the text gives, and the parameters' are set
   abbrev pub idsAtFirst : List Const → List Instruction → ℕ → Option Val
   idsAtFirst cs l =
-      let ps = paramsIn (parts l .before) in
+      let ps = paramIds (parts l .before) in
       puts ℕ-discrete (puts ℕ-discrete (λ x. none) (map (λ c. c .id) cs) (tabulate (W .constant) 0 (length cs))) ps (tabulate (W .arg) 0 (length ps))
 
   -- Blocks run from the first one.

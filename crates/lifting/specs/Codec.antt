@@ -2,7 +2,7 @@
 -- Each combinator proves its part once, so that the theorem for the whole text is a projection. Assumes nothing.
 --     lit, num           a literal; a number after one byte
 --     seq, alt, many     one after the other; one or the other; any number of the one, then the other
---     view, same         the format of another type
+--     viewAs, same         the format of another type
 -- To believe: `Ending` and `Format`, and of each format which values it is for (`Ok`) and what it prints (`print`). What it reads follows
 -- from these by the laws in the record, `sound` and `full`; the rest of this file proves them.
 use mathlib.Core.Path.{_≡_, refl, sym, ap, subst, _∙_}
@@ -127,12 +127,12 @@ num b h =
     }
 
 -- one after the other
-abbrev pub both : {A B R : Type 0} → A → B × R → Option ((A × B) × R)
-both a y = some ((a, y .0), y .1)
+abbrev pub bothOf : {A B R : Type 0} → A → B × R → Option ((A × B) × R)
+bothOf a y = some ((a, y .0), y .1)
 
 module _ {E : Ending} {A B : Type 0} (C : Codec A) (D : Format E B) where
   abbrev pub second : A × List ℕ → Found E (A × B)
-  second x = then (D .read (x .1)) (both (x .0))
+  second x = then (D .read (x .1)) (bothOf (x .0))
 
   abbrev OkSeq : A × B → Type 0
   OkSeq x = C .Ok (x .0) × D .Ok (x .1)
@@ -149,7 +149,7 @@ module _ {E : Ending} {A B : Type 0} (C : Codec A) (D : Format E B) where
         stop = λ x r. rw append-assoc (C .stop (x .0) (D .print (x .1) ++ E .text r));
         sound = λ t x e.
             let p = then-some (C .read t) second x e in
-            let q = then-some (D .read (p .0 .1)) (both (p .0 .0)) x (p .2) in
+            let q = then-some (D .read (p .0 .1)) (bothOf (p .0 .0)) x (p .2) in
             let f = C .sound t (p .0) (p .1) in
             let g = D .sound (p .0 .1) (q .0) (q .1) in
             subst (λ (y : (A × B) × E .Rest). (t ≡ printSeq (y .0) ++ E .text (y .1)) × OkSeq (y .0)) (Option·some-injective _ x (q .2))
@@ -157,7 +157,7 @@ module _ {E : Ending} {A B : Type 0} (C : Codec A) (D : Format E B) where
         full = λ x ok r m.
             ap (λ (l : List ℕ). then (C .read l) second) (append-assoc (C .print (x .0)) (D .print (x .1)) (E .text r))
             ∙ ap (λ (o : Reading A). then o second) (C .full (x .0) (ok .0) (D .print (x .1) ++ E .text r) (D .stop (x .1) r))
-            ∙ ap (λ (o : Found E B). then o (both (x .0))) (D .full (x .1) (ok .1) r m);
+            ∙ ap (λ (o : Found E B). then o (bothOf (x .0))) (D .full (x .1) (ok .1) r m);
       }
 
 -- what was read, as a value of another type
@@ -167,8 +167,8 @@ up f x = some (f (x .0), x .1)
 -- the format of another type: f and g are inverse to each other between the values of A that C is for and the good values of B
 module _ {E : Ending} {A B : Type 0} (C : Format E A) (f : A → B) (g : B → A) (Good : B → Type 0)
     (there : (b : B) → Good b → C .Ok (g b) × (f (g b) ≡ b)) (back : (a : A) → C .Ok a → Good (f a) × (g (f a) ≡ a)) where
-  unfoldable pub view : Format E B
-  view =
+  unfoldable pub viewAs : Format E B
+  viewAs =
       record {
         Ok = Good;
         print = λ b. C .print (g b);
@@ -187,7 +187,7 @@ module _ {E : Ending} {A B : Type 0} (C : Format E A) (f : A → B) (g : B → A
 
 -- where f and g are inverse to each other throughout
 unfoldable pub same : {E : Ending} {A B : Type 0} (C : Format E A) (f : A → B) (g : B → A) → ((b : B) → f (g b) ≡ b) → ((a : A) → g (f a) ≡ a) → Format E B
-same C f g fg gf = view C f g (λ b. C .Ok (g b)) (λ b ok. (ok, fg b)) (λ a ok. (rw (gf a) ok, gf a))
+same C f g fg gf = viewAs C f g (λ b. C .Ok (g b)) (λ b ok. (ok, fg b)) (λ a ok. (rw (gf a) ok, gf a))
 
 -- one or the other: the first does not read what the second prints
 abbrev pub left : {A B R : Type 0} → A × R → Option ((A ⊎ B) × R)
@@ -388,9 +388,9 @@ module _ {A : Type 0} (C : Codec A) (s : List ℕ) (h : Led s) (apart : (r : Lis
 
   -- how a list is read, one at a time
   pub list-over : (t : List ℕ) → C .read t ≡ none → list .read t ≡ then (strip s t) (λ r. some ([], r))
-  unfolding list same view lit
+  unfolding list same viewAs lit
   list-over t e = rw (many-over C (lit s h) (λ u r. apart r) t e) (simp then-then)
 
   pub list-more : (t : List ℕ) (a : A) (u : List ℕ) → C .read t ≡ some (a, u) → list .read t ≡ then (list .read u) (λ x. some (a ∷ x .0, x .1))
-  unfolding list same view lit
+  unfolding list same viewAs lit
   list-more t a u e = rw (many-more C (lit s h) (λ u r. apart r) t a u e) (simp then-then)

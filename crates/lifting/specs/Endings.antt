@@ -4,7 +4,7 @@ use mathlib.Core.Path.{_≡_, refl}
 use mathlib.Core.List.{List, [], _∷_, _++_, map}
 use Prim.Native.Nat.{ℕ}
 use native.Mathlib.Decide.{ℕ-discrete}
-use Rattle.lifting.specs.Machine.{Out, halt, after}
+use Rattle.lifting.specs.Machine.{Out, halt, stateAfter}
 use Rattle.lifting.specs.Ast.{Const, Func, Value}
 use Rattle.lifting.specs.Instructions.{Instruction}
 use Rattle.lifting.specs.World.{World, End, returned, exited, dead, unset, stuck, Mem}
@@ -26,7 +26,7 @@ abbrev consts : List Const
 consts = record { id = 5; opcode = 43 } ∷ record { id = 6; opcode = 43 } ∷ []
 
 abbrev last : List Instruction → Out (BlockState ℕ) (End ℕ)
-last l = let step = blockStep world (parts (twoBlocks l) .blocks) in step (after step 2 (blockStart world consts (twoBlocks l)))
+last l = let step = blockStep world (parts (twoBlocks l) .blocks) in step (stateAfter step 2 (blockStart world consts (twoBlocks l)))
 
 abbrev exitBy : ℕ → List ℕ → End ℕ
 exitBy opcode vs = exited (record { opcode = opcode; imms = [] }) vs

@@ -2,7 +2,7 @@
 -- other. Assumes nothing.
 --     print, read, Fits                              the printer, the reader, and which functions have a text
 --     print-of-read, read-of-print, read-exactly     each is the other's inverse
--- To believe: what each form prints, up to `text`, and `Fits`. Of the two functions that `same` and `view` take, the second (`of..`) takes a
+-- To believe: what each form prints, up to `text`, and `Fits`. Of the two functions that `same` and `viewAs` take, the second (`of..`) takes a
 -- value apart to be printed. `read` is held to these by `read-exactly`; the first functions (`to..`) and the laws on the way (`-to-of`,
 -- `-of-to`, `-apart`) are there to prove that.
 use mathlib.Core.Path.{_≡_, refl, sym, subst}
@@ -13,7 +13,7 @@ use Prim.Native.Nat.{ℕ}
 use Prim.Native.String.{String}
 use Rattle.lifting.specs.Bytes.{bytes}
 use Rattle.lifting.specs.Digits.{number, numberFrom, digits, digitsTo}
-use Rattle.lifting.specs.Codec.{Codec, Whole, Led, Every, strip, lit, num, seq, view, same, alt, many, readMany, list}
+use Rattle.lifting.specs.Codec.{Codec, Whole, Led, Every, strip, lit, num, seq, viewAs, same, alt, many, readMany, list}
 use Rattle.lifting.specs.Whole.{end, skip, readWhole, whole-sound, whole-full}
 use Rattle.lifting.specs.Ast.{Value, const, regionInput, nodeOutput, dataInstOutput, Imm, Inst, DataInstKind, inst, call, ext, Op, SelectionKind, boolCond, spvInst, Decl}
 use Rattle.lifting.specs.Ast.{Node, block, select, loop, exit, Region, ControlInstKind, unreachable, return, branch, selectBranch, exitInvocation, ControlInst, Const, Func}
@@ -22,8 +22,8 @@ use Rattle.lifting.specs.Ast.{Node, block, select, loop, exit, Region, C
 unfoldable pub before : {A : Type 0} (s : List ℕ) → Led s → Codec A → Codec A
 before s h C = same (seq (lit s h) C) (λ x. x .1) (λ a. (tt, a)) (λ a. refl) (λ x. refl)
 
-unfoldable pub after : {A : Type 0} → Codec A → (s : List ℕ) → Led s → Codec A
-after C s h = same (seq C (lit s h)) (λ x. x .0) (λ a. (a, tt)) (λ a. refl) (λ x. refl)
+unfoldable pub afterWord : {A : Type 0} → Codec A → (s : List ℕ) → Led s → Codec A
+afterWord C s h = same (seq C (lit s h)) (λ x. x .0) (λ a. (a, tt)) (λ a. refl) (λ x. refl)
 
 -- 'One form a line, single spaces, each line ended by byte 10': the words of a line, which bring the space before them
 unfoldable pub spaced : {A : Type 0} → Codec A → Codec A
@@ -37,11 +37,11 @@ unfoldable pub sub : {A : Type 0} → String → Codec A → Codec A
 sub s C = before (bytes " (" ++ bytes s) refl C
 
 unfoldable pub closed : {A : Type 0} → Codec A → Codec A
-closed C = after C (bytes ")") refl
+closed C = afterWord C (bytes ")") refl
 
 -- `(s ..` and byte 10, a line
 unfoldable pub line : {A : Type 0} → String → Codec A → Codec A
-line s C = before (bytes "(" ++ bytes s) refl (after C (bytes "\n") refl)
+line s C = before (bytes "(" ++ bytes s) refl (afterWord C (bytes "\n") refl)
 
 -- a number after a space, and one after an opening bracket
 unfoldable pub field : Codec ℕ
@@ -51,28 +51,28 @@ unfoldable pub open1 : Codec ℕ
 open1 = num 40 refl
 
 -- `N)` and `N N)`: what one number or two make of a form
-unfoldable pub one : Codec ℕ
-one = closed field
+unfoldable pub oneCodec : Codec ℕ
+oneCodec = closed field
 
 unfoldable pub two : Codec (ℕ × ℕ)
 two = closed (seq field field)
 
 -- `N..)`: numbers up to the closing bracket
-unfoldable pub numbers : Codec (List ℕ)
+unfoldable pub numbersCodec : Codec (List ℕ)
 unfolding field num strip
-numbers = list field (bytes ")") refl (λ r. refl)
+numbersCodec = list field (bytes ")") refl (λ r. refl)
 
 -- `(A T)`
-unfoldable pub asDecl : Codec (ℕ × ℕ) → Codec Decl
-asDecl C = same C (λ x. record { attrs = x .0; type = x .1 }) (λ d. (d .attrs, d .type)) (λ d. refl) (λ x. refl)
+unfoldable pub declCodec : Codec (ℕ × ℕ) → Codec Decl
+declCodec C = same C (λ x. record { attrs = x .0; type = x .1 }) (λ d. (d .attrs, d .type)) (λ d. refl) (λ x. refl)
 
 unfoldable pub decl : Codec Decl
-decl = asDecl (spaced (closed (seq open1 field)))
+decl = declCodec (spaced (closed (seq open1 field)))
 
 -- `(A T)..)`
-unfoldable pub decls : Codec (List Decl)
-unfolding decl asDecl spaced before lit seq same view strip
-decls = list decl (bytes ")") refl (λ r. refl)
+unfoldable pub declsCodec : Codec (List Decl)
+unfolding decl declCodec spaced before lit seq same viewAs strip
+declsCodec = list decl (bytes ")") refl (λ r. refl)
 
 -- 'A value V is `(c N)`, `(r R I)`, `(n N I)` or `(d I)`'
 abbrev pub ValueForm : Type 0
@@ -103,31 +103,31 @@ value-of-to (inl (inr x)) = refl
 value-of-to (inr i) = refl
 
 unfoldable pub valueForm : Codec ValueForm
-unfolding sub before lit seq same view alt strip
+unfolding sub before lit seq same viewAs alt strip
 valueForm =
-    alt (alt (alt (sub "c" one) (sub "r" two) (λ b r. refl)) (sub "n" two) (λ b r. refl)) (sub "d" one) (λ b r. refl)
+    alt (alt (alt (sub "c" oneCodec) (sub "r" two) (λ b r. refl)) (sub "n" two) (λ b r. refl)) (sub "d" oneCodec) (λ b r. refl)
 
-unfoldable pub value : Codec Value
-value = same valueForm toValue ofValue value-to-of value-of-to
+unfoldable pub valueCodec : Codec Value
+valueCodec = same valueForm toValue ofValue value-to-of value-of-to
 
 -- `V..)`
-unfoldable pub values : Codec (List Value)
-unfolding value valueForm sub before lit seq same view alt strip
-values = list value (bytes ")") refl (λ r. refl)
+unfoldable pub valuesCodec : Codec (List Value)
+unfolding valueCodec valueForm sub before lit seq same viewAs alt strip
+valuesCodec = list valueCodec (bytes ")") refl (λ r. refl)
 
 -- 'INST is `(inst OP (kind operandkind word)..)`'
-unfoldable pub imm : Codec Imm
-imm =
+unfoldable pub immCodec : Codec Imm
+immCodec =
     same (spaced (closed (seq open1 (seq field field)))) (λ x. record { kind = x .0; operand = x .1 .0; word = x .1 .1 })
     (λ i. (i .kind, (i .operand, i .word))) (λ i. refl) (λ x. refl)
 
-unfoldable pub imms : Codec (List Imm)
-unfolding imm spaced before lit seq same view strip
-imms = list imm (bytes ")") refl (λ r. refl)
+unfoldable pub immsCodec : Codec (List Imm)
+unfolding immCodec spaced before lit seq same viewAs strip
+immsCodec = list immCodec (bytes ")") refl (λ r. refl)
 
 unfoldable pub instForm : Codec Inst
 instForm =
-    same (sub "inst" (seq field imms)) (λ x. record { opcode = x .0; imms = x .1 }) (λ i. (i .opcode, i .imms)) (λ i. refl) (λ x. refl)
+    same (sub "inst" (seq field immsCodec)) (λ x. record { opcode = x .0; imms = x .1 }) (λ i. (i .opcode, i .imms)) (λ i. refl) (λ x. refl)
 
 -- 'X is INST, `(call ID)` or `(ext ID N)`'
 abbrev pub OpKindForm : Type 0
@@ -154,11 +154,11 @@ opKind-of-to (inl (inr n)) = refl
 opKind-of-to (inr x) = refl
 
 unfoldable pub opKindForm : Codec OpKindForm
-unfolding instForm sub before lit seq same view alt strip
-opKindForm = alt (alt instForm (sub "call" one) (λ b r. refl)) (sub "ext" two) (λ b r. refl)
+unfolding instForm sub before lit seq same viewAs alt strip
+opKindForm = alt (alt instForm (sub "call" oneCodec) (λ b r. refl)) (sub "ext" two) (λ b r. refl)
 
-unfoldable pub opKind : Codec DataInstKind
-opKind = same opKindForm toOpKind ofOpKind opKind-to-of opKind-of-to
+unfoldable pub opKindCodec : Codec DataInstKind
+opKindCodec = same opKindForm toOpKind ofOpKind opKind-to-of opKind-of-to
 
 -- K of a select, 'with K `bool` or INST'
 abbrev pub SelKindForm : Type 0
@@ -181,7 +181,7 @@ selKind-of-to (inl _) = refl
 selKind-of-to (inr i) = refl
 
 unfoldable pub selKindForm : Codec SelKindForm
-unfolding instForm keyword sub before lit seq same view strip
+unfolding instForm keyword sub before lit seq same viewAs strip
 selKindForm = alt (keyword "bool") instForm (λ b r. refl)
 
 unfoldable pub selKind : Codec SelectionKind
@@ -220,13 +220,13 @@ kind-of-to (inl (inr i)) = refl
 kind-of-to (inr k) = refl
 
 unfoldable pub plainForm : Codec PlainForm
-unfolding keyword sub before lit seq same view alt strip
+unfolding keyword sub before lit seq same viewAs alt strip
 plainForm =
     alt (alt (alt (keyword "unreachable") (keyword "return") (λ b r. refl)) (keyword "branch") (λ b r. refl))
     (sub "exit" (closed instForm)) (λ b r. refl)
 
 pub plain-apart : (k : SelectionKind) (r : List ℕ) → plainForm .read (selKind .print k ++ r) ≡ none
-unfolding plainForm selKind selKindForm instForm keyword sub before lit seq same view alt strip
+unfolding plainForm selKind selKindForm instForm keyword sub before lit seq same viewAs alt strip
 plain-apart boolCond r = refl
 plain-apart (spvInst i) r = refl
 
@@ -234,12 +234,12 @@ unfoldable pub kind : Codec ControlInstKind
 kind = same (alt plainForm selKind plain-apart) toKind ofKind kind-to-of kind-of-to
 
 -- `(R V..)` of `(vals (R V..)..)`
-unfoldable pub entry : Codec (ℕ × List Value)
-entry = spaced (seq open1 values)
+unfoldable pub entryCodec : Codec (ℕ × List Value)
+entryCodec = spaced (seq open1 valuesCodec)
 
-unfoldable pub entries : Codec (List (ℕ × List Value))
-unfolding entry spaced before lit seq same view strip
-entries = list entry (bytes ")") refl (λ r. refl)
+unfoldable pub entriesCodec : Codec (List (ℕ × List Value))
+unfolding entryCodec spaced before lit seq same viewAs strip
+entriesCodec = list entryCodec (bytes ")") refl (λ r. refl)
 
 -- `(func A R F C)`: attributes, return type id, function type id, control word
 unfoldable pub funcLine : Codec (ℕ × (ℕ × (ℕ × ℕ)))
@@ -251,29 +251,29 @@ constLine = same (line "const" two) (λ x. record { id = x .0; opcode = x .1 }) 
 
 -- `(param A T)`
 unfoldable pub paramLine : Codec Decl
-paramLine = asDecl (line "param" two)
+paramLine = declCodec (line "param" two)
 
 -- `(region (in (A T)..) (nodes N..) (out V..))`
 unfoldable pub regionLine : Codec Region
 regionLine =
-    same (line "region (in" (closed (seq decls (seq (sub "nodes" numbers) (sub "out" values)))))
+    same (line "region (in" (closed (seq declsCodec (seq (sub "nodes" numbersCodec) (sub "out" valuesCodec)))))
     (λ x. record { ins = x .0; nodes = x .1 .0; outs = x .1 .1 }) (λ r. (r .ins, (r .nodes, r .outs))) (λ r. refl) (λ x. refl)
 
 -- `(block I..)`
 unfoldable pub blockLine : Codec (List ℕ)
-blockLine = line "block" numbers
+blockLine = line "block" numbersCodec
 
 -- `(select K V (cases R..) (outs (A T)..) U)`
 unfoldable pub selectLine : Codec (SelectionKind × ((Value × (List ℕ × List Decl)) × ℕ))
-selectLine = line "select" (closed (seq selKind (seq (seq value (seq (sub "cases" numbers) (sub "outs" decls))) field)))
+selectLine = line "select" (closed (seq selKind (seq (seq valueCodec (seq (sub "cases" numbersCodec) (sub "outs" declsCodec))) field)))
 
 -- `(loop R V (init V..) U)`
 unfoldable pub loopLine : Codec (ℕ × ((Value × List Value) × ℕ))
-loopLine = line "loop" (closed (seq field (seq (seq value (sub "init" values)) field)))
+loopLine = line "loop" (closed (seq field (seq (seq valueCodec (sub "init" valuesCodec)) field)))
 
 -- `(exit INST V..)`
 unfoldable pub exitLine : Codec (Inst × List Value)
-exitLine = line "exit" (seq instForm values)
+exitLine = line "exit" (seq instForm valuesCodec)
 
 -- nodes: one of these four
 abbrev pub NodeForm : Type 0
@@ -304,7 +304,7 @@ node-of-to (inl (inr x)) = refl
 node-of-to (inr x) = refl
 
 unfoldable pub nodeForm : Codec NodeForm
-unfolding blockLine selectLine loopLine exitLine line before lit seq same view alt strip
+unfolding blockLine selectLine loopLine exitLine line before lit seq same viewAs alt strip
 nodeForm = alt (alt (alt blockLine selectLine (λ b r. refl)) loopLine (λ b r. refl)) exitLine (λ b r. refl)
 
 unfoldable pub nodeLine : Codec Node
@@ -313,13 +313,13 @@ nodeLine = same nodeForm toNode ofNode node-to-of node-of-to
 -- `(op A T X V..)`
 unfoldable pub opLine : Codec Op
 opLine =
-    same (line "op" (seq field (seq field (seq opKind values)))) (λ x. record { attrs = x .0; type = x .1 .0; kind = x .1 .1 .0; operands = x .1 .1 .1 })
+    same (line "op" (seq field (seq field (seq opKindCodec valuesCodec)))) (λ x. record { attrs = x .0; type = x .1 .0; kind = x .1 .1 .0; operands = x .1 .1 .1 })
     (λ o. (o .attrs, (o .type, (o .kind, o .operands)))) (λ o. refl) (λ x. refl)
 
 -- `(ctrl R A K (ins V..) (to R..) (vals (R V..)..))`: the way out of region R
 unfoldable pub ctrlLine : Codec (ℕ × ControlInst)
 ctrlLine =
-    same (line "ctrl" (closed (seq field (seq field (seq kind (seq (sub "ins" values) (seq (sub "to" numbers) (sub "vals" entries))))))))
+    same (line "ctrl" (closed (seq field (seq field (seq kind (seq (sub "ins" valuesCodec) (seq (sub "to" numbersCodec) (sub "vals" entriesCodec))))))))
     (λ x. (x .0, record { attrs = x .1 .0; kind = x .1 .1 .0; ins = x .1 .1 .1 .0; to = x .1 .1 .1 .1 .0; vals = x .1 .1 .1 .1 .1 }))
     (λ c. (c .0, (c .1 .attrs, (c .1 .kind, (c .1 .ins, (c .1 .to, c .1 .vals)))))) (λ c. refl) (λ x. refl)
 
@@ -338,32 +338,32 @@ abbrev pub Regions : Type 0
 Regions = List Region × Nodes
 
 unfoldable pub ctrlLines : Whole Ctrls
-unfolding ctrlLine line before lit seq same view strip end
+unfolding ctrlLine line before lit seq same viewAs strip end
 ctrlLines = many ctrlLine end (λ b r. refl)
 
 pub op-apart : (b : Ctrls) (r : Unit {0}) → opLine .read (ctrlLines .print b ++ []) ≡ none
-unfolding ctrlLines opLine ctrlLine line before lit seq same view strip many end
+unfolding ctrlLines opLine ctrlLine line before lit seq same viewAs strip many end
 op-apart = skip ctrlLine end opLine (λ c r. refl) (λ b r. refl)
 
 unfoldable pub opLines : Whole Ops
 opLines = many opLine ctrlLines op-apart
 
 pub node-apart : (b : Ops) (r : Unit {0}) → nodeLine .read (opLines .print b ++ []) ≡ none
-unfolding opLines ctrlLines nodeLine nodeForm blockLine selectLine loopLine exitLine opLine ctrlLine line before lit seq same view alt strip many end
+unfolding opLines ctrlLines nodeLine nodeForm blockLine selectLine loopLine exitLine opLine ctrlLine line before lit seq same viewAs alt strip many end
 node-apart = skip opLine ctrlLines nodeLine (λ o r. refl) (skip ctrlLine end nodeLine (λ c r. refl) (λ b r. refl))
 
 unfoldable pub nodeLines : Whole Nodes
 nodeLines = many nodeLine opLines node-apart
 
 pub region-node : (n : Node) (r : List ℕ) → regionLine .read (nodeLine .print n ++ r) ≡ none
-unfolding regionLine nodeLine nodeForm blockLine selectLine loopLine exitLine line before lit seq same view alt strip
+unfolding regionLine nodeLine nodeForm blockLine selectLine loopLine exitLine line before lit seq same viewAs alt strip
 region-node (block x) r = refl
 region-node (select k v c o u) r = refl
 region-node (loop n v i u) r = refl
 region-node (exit i v) r = refl
 
 pub region-apart : (b : Nodes) (r : Unit {0}) → regionLine .read (nodeLines .print b ++ []) ≡ none
-unfolding nodeLines opLines ctrlLines regionLine opLine ctrlLine line before lit seq same view strip many end
+unfolding nodeLines opLines ctrlLines regionLine opLine ctrlLine line before lit seq same viewAs strip many end
 region-apart =
     skip nodeLine opLines regionLine region-node
     (skip opLine ctrlLines regionLine (λ o r. refl) (skip ctrlLine end regionLine (λ c r. refl) (λ b r. refl)))
@@ -376,7 +376,7 @@ abbrev pub RestForm : Type 0
 RestForm = (Unit {0} × Unit {0}) ⊎ (Region × Regions)
 
 unfoldable pub restForm : Whole RestForm
-unfolding regionLine line before lit seq same view strip end
+unfolding regionLine line before lit seq same viewAs strip end
 restForm = alt (seq (lit (bytes "(imported)\n") refl) end) (seq regionLine regionLines) (λ b r. refl)
 
 -- a function without regions is the imported one
@@ -407,12 +407,12 @@ rest-of-to (inr x) ok =
     ((((ok .0, ok .1 .0), ok .1 .1), λ e. absurd (cons≢nil e)), refl)
 
 unfoldable pub restLines : Whole Regions
-restLines = view restForm toRest (λ x. ofRest (x .0) (x .1)) OkRest (λ x. rest-to-of (x .0) (x .1)) rest-of-to
+restLines = viewAs restForm toRest (λ x. ofRest (x .0) (x .1)) OkRest (λ x. rest-to-of (x .0) (x .1)) rest-of-to
 
 -- what refuses `(imported)` and a region refuses the rest of the text
 pub skip-rest : {A : Type 0} (R : Codec A) → ((r : List ℕ) → R .read (bytes "(imported)\n" ++ r) ≡ none)
     → ((x : Region) (r : List ℕ) → R .read (regionLine .print x ++ r) ≡ none) → (x : Regions) (r : Unit {0}) → R .read (restLines .print x ++ []) ≡ none
-unfolding restLines restForm view alt seq lit end
+unfolding restLines restForm viewAs alt seq lit end
 skip-rest R imported region x r = go (x .0)
   where
     go : (rs : List Region) → R .read (restForm .print (ofRest rs (x .1)) ++ []) ≡ none
@@ -420,14 +420,14 @@ skip-rest R imported region x r = go (x .0)
     go (a ∷ rs) = rw append-assoc (region a (regionLines .print (rs, x .1) ++ []))
 
 pub param-apart : (b : Regions) (r : Unit {0}) → paramLine .read (restLines .print b ++ []) ≡ none
-unfolding paramLine asDecl regionLine line before lit seq same view strip
+unfolding paramLine declCodec regionLine line before lit seq same viewAs strip
 param-apart = skip-rest paramLine (λ r. refl) (λ x r. refl)
 
 unfoldable pub paramLines : Whole (List Decl × Regions)
 paramLines = many paramLine restLines param-apart
 
 pub const-apart : (b : List Decl × Regions) (r : Unit {0}) → constLine .read (paramLines .print b ++ []) ≡ none
-unfolding paramLines constLine paramLine asDecl regionLine line before lit seq same view strip many
+unfolding paramLines constLine paramLine declCodec regionLine line before lit seq same viewAs strip many
 const-apart = skip paramLine restLines constLine (λ d r. refl) (skip-rest constLine (λ r. refl) (λ x r. refl))
 
 unfoldable pub constLines : Whole (List Const × (List Decl × Regions))
@@ -468,9 +468,9 @@ ofFunc f = ((f .attrs, (f .ret, (f .type, f .control))), (f .consts, (f .params,
 
 -- the whole text
 unfoldable pub text : Whole Func
-unfolding constLines paramLines restLines regionLines nodeLines opLines ctrlLines seq view many end
+unfolding constLines paramLines restLines regionLines nodeLines opLines ctrlLines seq viewAs many end
 text =
-    view (seq funcLine constLines) toFunc ofFunc Fits
+    viewAs (seq funcLine constLines) toFunc ofFunc Fits
     (λ f ok. ((ok .func, (ok .consts, (ok .params, ((ok .regions, (ok .nodes, (ok .ops, (ok .ctrls, tt)))), ok .alone)))), refl))
     (λ x ok. (
       record {
@@ -489,9 +489,9 @@ text =
 -- all of the text's definitions opened, so that `unfolding print` or `unfolding read` alone computes
 unfoldable pub opened : Whole Func
 unfolding text constLines paramLines restLines restForm regionLines nodeLines opLines ctrlLines funcLine constLine paramLine regionLine
-    nodeLine nodeForm blockLine selectLine loopLine exitLine opLine ctrlLine entries entry kind plainForm selKind selKindForm opKind
-    opKindForm instForm imms imm values value valueForm decls decl asDecl numbers one two open1 field line closed sub keyword spaced before
-    after lit num seq view same alt many readMany list strip number numberFrom digits digitsTo end
+    nodeLine nodeForm blockLine selectLine loopLine exitLine opLine ctrlLine entriesCodec entryCodec kind plainForm selKind selKindForm opKindCodec
+    opKindForm instForm immsCodec immCodec valuesCodec valueCodec valueForm declsCodec decl declCodec numbersCodec oneCodec two open1 field line closed sub keyword spaced before
+    afterWord lit num seq viewAs same alt many readMany list strip number numberFrom digits digitsTo end
 opened = text
 
 unfoldable pub print : Func → List ℕ
@@ -504,11 +504,11 @@ read t = readWhole opened t
 
 -- what is read is the printed text of a function that fits, and the text of every function that fits is read
 pub print-of-read : (t : List ℕ) (f : Func) → read t ≡ some f → (t ≡ print f) × Fits f
-unfolding print read opened text view
+unfolding print read opened text viewAs
 print-of-read t f e = whole-sound text t f e
 
 pub read-of-print : (f : Func) → Fits f → read (print f) ≡ some f
-unfolding print read opened text view
+unfolding print read opened text viewAs
 read-of-print f ok = whole-full text f ok
 
 -- so a function is read from its printed text and from no other

@@ -13,18 +13,18 @@ onward (go t) s = t
 onward (halt h) s = s
 
 -- the state after k steps
-abbrev pub after : {S H : Type 0} → (S → Out S H) → ℕ → S → S
-after step zero s = s
-after step (suc k) s = after step k (onward (step s) s)
+abbrev pub stateAfter : {S H : Type 0} → (S → Out S H) → ℕ → S → S
+stateAfter step zero s = s
+stateAfter step (suc k) s = stateAfter step k (onward (step s) s)
 
 module _ {S H L : Type 0} (step : S → Out S H) (log : S → L) where
   -- A run reaches each list that it holds after some number of steps.
   abbrev pub Reaches : S → L → Type 0
-  Reaches s l = (k : ℕ) × (log (after step k s) ≡ l)
+  Reaches s l = (k : ℕ) × (log (stateAfter step k s) ≡ l)
 
   -- it ends in a way, holding a list
   abbrev pub Ends : S → H → L → Type 0
-  Ends s h l = (k : ℕ) × (step (after step k s) ≡ halt h) × (log (after step k s) ≡ l)
+  Ends s h l = (k : ℕ) × (step (stateAfter step k s) ≡ halt h) × (log (stateAfter step k s) ≡ l)
 
 -- Two runs reach the same lists, and one ends exactly if the other does, alike.
 pub record Alike {S T H L : Type 0} (stepS : S → Out S H) (logS : S → L) (stepT : T → Out T H) (logT : T → L) (s : S) (t : T) : Type 0 where

@@ -26,14 +26,14 @@ pub record RegionState (Val : Type 0) : Type 0 where
   pub todo : List Task
   pub mem : Mem Val Value
 
-abbrev pub calleeOf : DataInstKind → Option ℕ
-calleeOf (inst i) = none
-calleeOf (call f) = some f
-calleeOf (ext s n) = some s
+abbrev pub calleeFunction : DataInstKind → Option ℕ
+calleeFunction (inst i) = none
+calleeFunction (call f) = some f
+calleeFunction (ext s n) = some s
 
 -- how an op stands in the executed list
-abbrev pub entry : {Val : Type 0} → Op → List Val → Executed Val
-entry o vs = record { opcode = opOpcode (o .kind); attrs = o .attrs; type = o .type; imms = opImms (o .kind); callee = calleeOf (o .kind); vals = vs }
+abbrev pub executedOp : {Val : Type 0} → Op → List Val → Executed Val
+executedOp o vs = record { opcode = opOpcode (o .kind); attrs = o .attrs; type = o .type; imms = opImms (o .kind); callee = calleeFunction (o .kind); vals = vs }
 
 abbrev pub sets : {Val : Type 0} → List Value → List Val → Mem Val Value → Mem Val Value
 sets ks vs m = record { env = puts eqValue (m .env) ks vs; log = m .log }
@@ -45,7 +45,7 @@ module _ {Val : Type 0} (W : World Val) where
   setResult (suc t) e i n = put eqValue e (dataInstOutput i) (W .result n)
 
   abbrev pub execute : Op → ℕ → List Val → Mem Val Value → Mem Val Value
-  execute o i vs m = record { env = setResult (o .type) (m .env) i (length (m .log)); log = m .log ++ (entry o vs ∷ []) }
+  execute o i vs m = record { env = setResult (o .type) (m .env) i (length (m .log)); log = m .log ++ (executedOp o vs ∷ []) }
 
 module _ (F : Func) {Val : Type 0} (W : World Val) where
   -- At first only parameters (region 0's inputs) and constants are set.

@@ -13,7 +13,7 @@ use Rattle.lifting.specs.Grammar.{read}
 use Rattle.lifting.specs.Limits.{funcWords, workWords}
 use Rattle.lifting.specs.Words.{listFrom}
 use Rattle.lifting.specs.Answer.{listed, answer}
-use Rattle.lifting.specs.Machine.{Out, halt, after}
+use Rattle.lifting.specs.Machine.{Out, halt, stateAfter}
 use Rattle.lifting.specs.World.{World, Executed, End, returned}
 use Rattle.lifting.specs.RegionRun.{regionStep, regionLog, regionStart}
 use Rattle.lifting.specs.BlockRun.{parts, blockStep, blockLog, blockStart}
@@ -75,7 +75,7 @@ abbrev executed : List (Executed ℕ)
 executed = done 128 4 none (8 ∷ 9 ∷ []) ∷ done 128 4 none (9 ∷ 8 ∷ []) ∷ done 129 4 none (9 ∷ []) ∷ done 57 0 (some 7) (12 ∷ []) ∷ []
 
 abbrev pub Comes : {S : Type 0} → (S → Out S (End ℕ)) → (S → List (Executed ℕ)) → S → List (Executed ℕ) → End ℕ → Type 0
-Comes step log s l h = (log (after step 40 s) ≡ l) × (step (after step 40 s) ≡ halt h)
+Comes step log s l h = (log (stateAfter step 40 s) ≡ l) × (step (stateAfter step 40 s) ≡ halt h)
 
 pub regions-come : Comes (regionStep function world) (regionLog function world) (regionStart function world) executed (returned (12 ∷ []))
 unfolding function world eqValue ℕ-discrete

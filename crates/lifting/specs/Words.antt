@@ -1,5 +1,5 @@
 -- Document 01, 'The instruction list': the list as words, and the words read back. Assumes nothing.
--- To believe: `words`, with `instWords` and `immWords`. `listFrom` is held to them by the law `list-from`; the rest proves it.
+-- To believe: `words`, with `instWords` and `immsWords`. `listFrom` is held to them by the law `list-from`; the rest proves it.
 use mathlib.Core.Path.{_≡_, refl, ap, _∙_}
 use mathlib.Core.List.{List, [], _∷_, _++_, append-assoc}
 use Prim.Native.Nat.{ℕ, zero, suc, _≤_}
@@ -9,14 +9,14 @@ use lib.Seq.{take-append-seam, drop-append-seam}
 use Rattle.lifting.specs.Ast.{Imm}
 use Rattle.lifting.specs.Instructions.{Instruction}
 
-abbrev pub immWords : List Imm → List ℕ
-immWords [] = []
-immWords (m ∷ l) = m .kind ∷ m .operand ∷ m .word ∷ immWords l
+abbrev pub immsWords : List Imm → List ℕ
+immsWords [] = []
+immsWords (m ∷ l) = m .kind ∷ m .operand ∷ m .word ∷ immsWords l
 
 -- opcode, attributes, result type id, result id, count of immediates, three words each, count of ids, ids
 unfoldable pub instWords : Instruction → List ℕ
 instWords i =
-    i .opcode ∷ i .attrs ∷ i .type ∷ i .result ∷ length (i .imms) ∷ (immWords (i .imms) ++ (length (i .ids) ∷ i .ids))
+    i .opcode ∷ i .attrs ∷ i .type ∷ i .result ∷ length (i .imms) ∷ (immsWords (i .imms) ++ (length (i .ids) ∷ i .ids))
 
 unfoldable pub words : List Instruction → List ℕ
 unfolding instWords
@@ -62,14 +62,14 @@ unfoldable pub listFrom : List ℕ → List Instruction
 listFrom ws = instsFrom (length ws) ws
 
 -- what was written is read
-imms-back : (l : List Imm) (r : List ℕ) → immsFrom (length l) (immWords l ++ r) ≡ record { got = l; left = r }
+imms-back : (l : List Imm) (r : List ℕ) → immsFrom (length l) (immsWords l ++ r) ≡ record { got = l; left = r }
 imms-back [] r = refl
 imms-back (m ∷ l) r = ap (addImm m) (imms-back l r)
 
 inst-back : (i : Instruction) (r : List ℕ) → instFrom (instWords i ++ r) ≡ record { got = i; left = r }
 unfolding instWords
 inst-back i r =
-    ap (λ (w : List ℕ). instWith (i .opcode) (i .attrs) (i .type) (i .result) (immsFrom (length (i .imms)) w)) (append-assoc (immWords (i .imms)) (length (i .ids) ∷ i .ids) r)
+    ap (λ (w : List ℕ). instWith (i .opcode) (i .attrs) (i .type) (i .result) (immsFrom (length (i .imms)) w)) (append-assoc (immsWords (i .imms)) (length (i .ids) ∷ i .ids) r)
     ∙ ap (instWith (i .opcode) (i .attrs) (i .type) (i .result)) (imms-back (i .imms) (length (i .ids) ∷ (i .ids ++ r)))
     ∙ ap (λ (t : List ℕ). record { got = record { opcode = i .opcode; attrs = i .attrs; type = i .type; result = i .result; imms = i .imms; ids = t }; left = drop (length (i .ids)) (i .ids ++ r) })
     (take-append-seam (i .ids) r)

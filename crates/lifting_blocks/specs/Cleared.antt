@@ -19,15 +19,15 @@ use Rattle.lifting.specs.Parts.{calleeIds, childrenOf, ctrlOf, hasBody, nodeOf,
 use Rattle.lifting.specs.Order.{roots}
 use Rattle.lifting.specs.Points.{BlockLifting, CfgPoint, Merge, Table, Terminator, blockAt, blockOr, eqPoint, loopMerge, noMerge, nodeEntry, nodeExit, plain, points, regionEntry, regionExit, selectionMerge}
 use Rattle.lifting.specs.Walk.{Place, always, childTerm, entryBlock, exitBlock, exitTerm, inBlock, inNode, loopTerm, nextPoint, outBlock, rootTerm, top, walkKids, walkNode, walkNodes, walkOf, walkRegion, walkRoots}
-use Rattle.lifting.specs.Absorb.{Absorbing, absorb, absorbAll, absorbAt, countIn, emptied, firstUse, absorbInto, ifBranch, ifEmpty, ifNoMerge, ifNoPhis, ifZero, joined, keep, keepIf, kept, labels, mergeLabels, single, soleTarget, tryTarget, useCount, uses}
+use Rattle.lifting.specs.Absorb.{Absorbing, absorb, absorbAll, absorbAt, countIn, emptied, firstUse, absorbInto, ifBranch, ifEmpty, ifNoMerge, ifNoPhis, ifZero, joined, keep, keepIf, kept, labels, mergeLabels, theOnly, soleTarget, tryTarget, useCount, uses}
 use Rattle.lifting.specs.Ids.{Name, idOf, label, labelOf, names, newId, nextId, numberIn, paramKeys, resultOf, theFunction, value}
 use Rattle.lifting.specs.Instructions.{Instruction, bare, blockInsts, bodyInsts, endInst, functionControl, functionInst, ifUsed, instructions, labelInst, listOf, loopControl, mergeInsts, opImms, opInst, opOpcode, pairs, paramInst, paramInsts, phiInst, phiInsts, resultId, selectionControl, short, termImms, termInst, termOpcode}
 use Rattle.lifting.specs.BlockRun.{isMerge}
 use Rattle.general_laws.specs.Members.{All}
-use Rattle.lifting_runs.specs.Each.{taken}
+use Rattle.lifting_runs.specs.Each.{absorbedBy}
 use Rattle.lifting_runs.specs.EmitRun.{BlockOk, Sound, free-of}
 use Rattle.lifting_runs.specs.Listing.{all-phis, no-merges}
-use Rattle.lifting_runs.specs.Controls.{cleared, clearedNode}
+use Rattle.lifting_runs.specs.Controls.{controlsCleared, clearedNode}
 
 -- ---- blocks with 0 for the number of each merge
 
@@ -52,7 +52,7 @@ clearTable = map clearEntry
 
 module _ (F : Func) where
   abbrev G : Func
-  G = cleared F
+  G = controlsCleared F
 
   node-is : (n : ℕ) → nodeOf G n ≡ clearedNode (nodeOf F n)
   node-is n = List·getD-map clearedNode (F .nodes) n (block [])
@@ -124,7 +124,7 @@ module _ (F : Func) where
   roots-clear k [] = refl
   roots-clear k (r ∷ rs) = (λ i. region-clear k r top i ++ roots-clear k rs i) ∙ sym (map-append clearEntry (walkRegion F k r top) (walkRoots F k rs))
 
-  pub walk-clear : walkOf (cleared F) ≡ clearTable (walkOf F)
+  pub walk-clear : walkOf (controlsCleared F) ≡ clearTable (walkOf F)
   unfolding walkOf roots
   walk-clear = by-body (hasBody (F .regions))
     where
@@ -168,16 +168,16 @@ at-clear (x ∷ T) p = by-point (at-clear T p) (eqPoint p (x .0))
     by-point h (no e) = h
 
 sole-clear : (t : Terminator) → soleTarget (clearTerm t) ≡ soleTarget t
-sole-clear t = ap (λ (o : Option CfgPoint). ifZero (t .attrs) (ifBranch (t .kind) (ifEmpty (t .ins) (ifEmpty (t .vals) o)))) (of-merge (t .merge) (single (t .targets)))
+sole-clear t = ap (λ (o : Option CfgPoint). ifZero (t .attrs) (ifBranch (t .kind) (ifEmpty (t .ins) (ifEmpty (t .vals) o)))) (of-merge (t .merge) (theOnly (t .targets)))
   where
     of-merge : (m : Merge) (o : Option CfgPoint) → ifNoMerge (clearMerge m) o ≡ ifNoMerge m o
     of-merge noMerge o = refl
     of-merge (selectionMerge a u) o = refl
     of-merge (loopMerge a b u) o = refl
 
-fuse-clear : (b t : CfgPoint) (c : BlockLifting) (T : Table) → absorbInto b t (clearBlock c) (clearTable T) ≡ clearTable (absorbInto b t c T)
-fuse-clear b t c [] = refl
-fuse-clear b t c (x ∷ T) = λ i. (x .0, by-points (eqPoint (x .0) t) (eqPoint (x .0) b) i) ∷ fuse-clear b t c T i
+absorb-cleared : (b t : CfgPoint) (c : BlockLifting) (T : Table) → absorbInto b t (clearBlock c) (clearTable T) ≡ clearTable (absorbInto b t c T)
+absorb-cleared b t c [] = refl
+absorb-cleared b t c (x ∷ T) = λ i. (x .0, by-points (eqPoint (x .0) t) (eqPoint (x .0) b) i) ∷ absorb-cleared b t c T i
   where
     by-points : {P Q : Type 0} (d : Dec P) (e : Dec Q)
         → choose d (emptied (clearBlock (x .1))) (choose e (joined (clearBlock (x .1)) (clearBlock c)) (clearBlock (x .1))) ≡ clearBlock (choose d (emptied (x .1)) (choose e (joined (x .1) c) (x .1)))
@@ -192,13 +192,13 @@ try-clear : (b : CfgPoint) (o : Option CfgPoint) (s : Absorbing) → tryTarget b
 try-clear b none s = refl
 try-clear b (some t) s = by-count (ℕ-discrete (s .counts t) 1)
   where
-    by-keys : (ks : List Value) → ifNoPhis ks (taken b t (clearState s)) (clearState s) ≡ clearState (ifNoPhis ks (taken b t s) s)
-    by-keys [] = λ i. record { table = (ap (λ (c : BlockLifting). absorbInto b t c (clearTable (s .table))) (at-clear (s .table) t) ∙ fuse-clear b t (blockAt (s .table) t) (s .table)) i; counts = taken b t s .counts }
+    by-keys : (ks : List Value) → ifNoPhis ks (absorbedBy b t (clearState s)) (clearState s) ≡ clearState (ifNoPhis ks (absorbedBy b t s) s)
+    by-keys [] = λ i. record { table = (ap (λ (c : BlockLifting). absorbInto b t c (clearTable (s .table))) (at-clear (s .table) t) ∙ absorb-cleared b t (blockAt (s .table) t) (s .table)) i; counts = absorbedBy b t s .counts }
     by-keys (k ∷ ks) = refl
 
-    by-count : (d : Dec (s .counts t ≡ 1)) → choose d (ifNoPhis (blockAt (clearTable (s .table)) t .keys) (taken b t (clearState s)) (clearState s)) (clearState s)
-        ≡ clearState (choose d (ifNoPhis (blockAt (s .table) t .keys) (taken b t s) s) s)
-    by-count (yes e) = ap (λ (c : BlockLifting). ifNoPhis (c .keys) (taken b t (clearState s)) (clearState s)) (at-clear (s .table) t) ∙ by-keys (blockAt (s .table) t .keys)
+    by-count : (d : Dec (s .counts t ≡ 1)) → choose d (ifNoPhis (blockAt (clearTable (s .table)) t .keys) (absorbedBy b t (clearState s)) (clearState s)) (clearState s)
+        ≡ clearState (choose d (ifNoPhis (blockAt (s .table) t .keys) (absorbedBy b t s) s) s)
+    by-count (yes e) = ap (λ (c : BlockLifting). ifNoPhis (c .keys) (absorbedBy b t (clearState s)) (clearState s)) (at-clear (s .table) t) ∙ by-keys (blockAt (s .table) t .keys)
     by-count (no e) = refl
 
 turn-clear : (b : CfgPoint) (s : Absorbing) → absorbAt b (clearState s) ≡ clearState (absorbAt b s)
@@ -259,46 +259,46 @@ module _ (F : Func) (first : ℕ) (T K : Table) where
   abbrev K0 : Table
   K0 = clearTable K
 
-  names-clear : names (cleared F) T0 K0 ≡ names F T K
+  names-clear : names (controlsCleared F) T0 K0 ≡ names F T K
   unfolding names
   names-clear = λ i. theFunction ∷ (map value (paramKeys F ++ (gather-clear (λ b. b .keys) (λ b. refl) T i ++ gather-clear (λ b. gather (λ j. resultOf (opOf F j .type) j) (b .ops)) (λ b. refl) K i)) ++ map label (points-clear K i))
 
-  new-clear : newId (cleared F) first T0 K0 ≡ newId F first T K
+  new-clear : newId (controlsCleared F) first T0 K0 ≡ newId F first T K
   unfolding newId
   new-clear = λ i x. numberIn first x (names-clear i)
 
-  id-clear : idOf (cleared F) first T0 K0 ≡ idOf F first T K
+  id-clear : idOf (controlsCleared F) first T0 K0 ≡ idOf F first T K
   unfolding idOf
   id-clear = λ i v. by-value v i
     where
-      by-value : (v : Value) → idOf (cleared F) first T0 K0 v ≡ idOf F first T K v
+      by-value : (v : Value) → idOf (controlsCleared F) first T0 K0 v ≡ idOf F first T K v
       by-value (const n) = refl
       by-value (regionInput r i) = ap (λ (f : Name → ℕ). f (value (regionInput r i))) new-clear
       by-value (nodeOutput n i) = ap (λ (f : Name → ℕ). f (value (nodeOutput n i))) new-clear
       by-value (dataInstOutput i) = ap (λ (f : Name → ℕ). f (value (dataInstOutput i))) new-clear
 
-  label-clear : labelOf (cleared F) first T0 K0 ≡ labelOf F first T K
+  label-clear : labelOf (controlsCleared F) first T0 K0 ≡ labelOf F first T K
   unfolding labelOf
   label-clear = λ i p. new-clear i (label p)
 
-  pairs-clear : (L : Table) (q : CfgPoint) (j : ℕ) → pairs (cleared F) first T0 K0 (clearTable L) q j ≡ pairs F first T K L q j
+  pairs-clear : (L : Table) (q : CfgPoint) (j : ℕ) → pairs (controlsCleared F) first T0 K0 (clearTable L) q j ≡ pairs F first T K L q j
   unfolding pairs
   pairs-clear [] q j = refl
   pairs-clear (x ∷ L) q j = λ i.
       ifUsed (countIn q (x .1 .term .targets)) (id-clear i (getD (valsOr (find eqPoint q (x .1 .term .vals)) (at-clear K q i .defaults)) j (const 0)) ∷ label-clear i (x .0) ∷ []) ++ pairs-clear L q j i
 
-  phis-clear : (q : CfgPoint) (ks : List Value) (ds : List Decl) (j : ℕ) → phiInsts (cleared F) first T0 K0 q ks ds j ≡ phiInsts F first T K q ks ds j
+  phis-clear : (q : CfgPoint) (ks : List Value) (ds : List Decl) (j : ℕ) → phiInsts (controlsCleared F) first T0 K0 q ks ds j ≡ phiInsts F first T K q ks ds j
   unfolding phiInsts phiInst
   phis-clear q [] ds j = refl
   phis-clear q (k ∷ ks) ds j = λ i.
       record { opcode = opcodeOf Phi; attrs = getD ds j (record { attrs = 0; type = 0 }) .attrs; type = getD ds j (record { attrs = 0; type = 0 }) .type; result = id-clear i k; imms = []; ids = pairs-clear K q j i }
       ∷ phis-clear q ks ds (suc j) i
 
-  result-clear : (t j : ℕ) → resultId (cleared F) first T0 K0 t j ≡ resultId F first T K t j
+  result-clear : (t j : ℕ) → resultId (controlsCleared F) first T0 K0 t j ≡ resultId F first T K t j
   result-clear zero j = refl
   result-clear (suc t) j = λ i. id-clear i (dataInstOutput j)
 
-  op-clear : opInst (cleared F) first T0 K0 ≡ opInst F first T K
+  op-clear : opInst (controlsCleared F) first T0 K0 ≡ opInst F first T K
   unfolding opInst
   op-clear = λ i j. record {
     opcode = opOpcode (opOf F j .kind);
@@ -309,11 +309,11 @@ module _ (F : Func) (first : ℕ) (T K : Table) where
     ids = calleeIds (opOf F j .kind) ++ map (id-clear i) (opOf F j .operands);
   }
 
-  term-clear : (t : Terminator) → termInst (cleared F) first T0 K0 (clearTerm t) ≡ termInst F first T K t
+  term-clear : (t : Terminator) → termInst (controlsCleared F) first T0 K0 (clearTerm t) ≡ termInst F first T K t
   unfolding termInst
   term-clear t = λ i. record { opcode = termOpcode (t .kind) (t .ins); attrs = t .attrs; type = 0; result = 0; imms = termImms (t .kind); ids = map (id-clear i) (t .ins) ++ map (label-clear i) (t .targets) }
 
-  merge-clear : (m : Merge) → mergeInsts (cleared F) first T0 K0 (clearMerge m) ≡ map clearedInst (mergeInsts F first T K m)
+  merge-clear : (m : Merge) → mergeInsts (controlsCleared F) first T0 K0 (clearMerge m) ≡ map clearedInst (mergeInsts F first T K m)
   unfolding mergeInsts
   merge-clear noMerge = refl
   merge-clear (selectionMerge a u) = λ i. bare (opcodeOf SelectionMerge) (short selectionControl 0) (label-clear i a ∷ []) ∷ []
@@ -324,7 +324,7 @@ module _ (F : Func) (first : ℕ) (T K : Table) where
     unfolding phiInst
     phis-stay q b = stays _ (all-phis F first T K NoMerge q (λ v d j. refl) (b .keys) (b .decls) 0)
 
-    body-clear : (q : CfgPoint) (b : BlockLifting) → BlockOk F first T K b → bodyInsts (cleared F) first T0 K0 q (clearBlock b) ≡ map clearedInst (bodyInsts F first T K q b)
+    body-clear : (q : CfgPoint) (b : BlockLifting) → BlockOk F first T K b → bodyInsts (controlsCleared F) first T0 K0 q (clearBlock b) ≡ map clearedInst (bodyInsts F first T K q b)
     unfolding bodyInsts
     body-clear q b h =
         let others = no-merges F first T K b (free-of F first T K ok b h) in
@@ -340,7 +340,7 @@ module _ (F : Func) (first : ℕ) (T K : Table) where
         ∙ ap (λ (j : Instruction). phis ++ (ops ++ (map clearedInst merge ++ (j ∷ [])))) (ap (λ (c : Bool). clearIf c way) (others .1))
         )
 
-    blocks-clear : (L : Table) → All (λ (x : CfgPoint × BlockLifting). BlockOk F first T K (x .1)) L → blockInsts (cleared F) first T0 K0 (clearTable L) ≡ map clearedInst (blockInsts F first T K L)
+    blocks-clear : (L : Table) → All (λ (x : CfgPoint × BlockLifting). BlockOk F first T K (x .1)) L → blockInsts (controlsCleared F) first T0 K0 (clearTable L) ≡ map clearedInst (blockInsts F first T K L)
     unfolding blockInsts labelInst
     blocks-clear [] h = refl
     blocks-clear (x ∷ L) h =
@@ -348,13 +348,13 @@ module _ (F : Func) (first : ℕ) (T K : Table) where
         (λ i. record { opcode = opcodeOf Label; attrs = 0; type = 0; result = label-clear i (x .0); imms = []; ids = [] } ∷ (body-clear (x .0) (x .1) (h .0) i ++ blocks-clear L (h .1) i))
         ∙ ap (λ (l : List Instruction). start ∷ l) (sym (map-append clearedInst (bodyInsts F first T K (x .0) (x .1)) (blockInsts F first T K L)))
 
-    params-clear : (ds : List Decl) (j : ℕ) → paramInsts (cleared F) first T0 K0 ds j ≡ map clearedInst (paramInsts F first T K ds j)
+    params-clear : (ds : List Decl) (j : ℕ) → paramInsts (controlsCleared F) first T0 K0 ds j ≡ map clearedInst (paramInsts F first T K ds j)
     unfolding paramInsts paramInst
     params-clear [] j = refl
     params-clear (d ∷ ds) j = λ i.
         record { opcode = opcodeOf FunctionParameter; attrs = d .attrs; type = d .type; result = id-clear i (regionInput 0 j); imms = []; ids = [] } ∷ params-clear ds (suc j) i
 
-    pub list-clear : instructions (cleared F) first T0 K0 ≡ map clearedInst (instructions F first T K)
+    pub list-clear : instructions (controlsCleared F) first T0 K0 ≡ map clearedInst (instructions F first T K)
     unfolding instructions functionInst
     list-clear =
         (λ i. record { opcode = opcodeOf Function; attrs = F .attrs; type = F .ret; result = new-clear i theFunction; imms = short functionControl (F .control); ids = F .type ∷ [] }
@@ -366,16 +366,16 @@ module _ (F : Func) (first : ℕ) (T K : Table) where
         ))
 
 -- The list of the function with 0 for each number, and its next free id.
-pub list-of-cleared : (F : Func) (first : ℕ) → Sound F first (walkOf F) (kept (walkOf F)) → listOf (cleared F) first ≡ map clearedInst (listOf F first)
+pub list-of-cleared : (F : Func) (first : ℕ) → Sound F first (walkOf F) (kept (walkOf F)) → listOf (controlsCleared F) first ≡ map clearedInst (listOf F first)
 unfolding listOf
 list-of-cleared F first ok =
-    ap (λ (U : Table). instructions (cleared F) first U (kept U)) (walk-clear F)
-    ∙ ap (instructions (cleared F) first (clearTable (walkOf F))) (kept-clear (walkOf F))
+    ap (λ (U : Table). instructions (controlsCleared F) first U (kept U)) (walk-clear F)
+    ∙ ap (instructions (controlsCleared F) first (clearTable (walkOf F))) (kept-clear (walkOf F))
     ∙ list-clear F first (walkOf F) (kept (walkOf F)) ok
 
-pub next-of-cleared : (F : Func) (first : ℕ) → nextId (cleared F) first (walkOf (cleared F)) (kept (walkOf (cleared F))) ≡ nextId F first (walkOf F) (kept (walkOf F))
+pub next-of-cleared : (F : Func) (first : ℕ) → nextId (controlsCleared F) first (walkOf (controlsCleared F)) (kept (walkOf (controlsCleared F))) ≡ nextId F first (walkOf F) (kept (walkOf F))
 unfolding nextId
 next-of-cleared F first =
-    ap (λ (U : Table). first + length (names (cleared F) U (kept U))) (walk-clear F)
-    ∙ ap (λ (L : Table). first + length (names (cleared F) (clearTable (walkOf F)) L)) (kept-clear (walkOf F))
+    ap (λ (U : Table). first + length (names (controlsCleared F) U (kept U))) (walk-clear F)
+    ∙ ap (λ (L : Table). first + length (names (controlsCleared F) (clearTable (walkOf F)) L)) (kept-clear (walkOf F))
     ∙ ap (λ (l : List Name). first + length l) (names-clear F first (walkOf F) (kept (walkOf F)))

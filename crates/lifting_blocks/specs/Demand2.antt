@@ -34,7 +34,7 @@ use Rattle.lifting_runs.specs.ListIds.{RunOn, givenIds, ids-run-on}
 use Rattle.lifting_runs.specs.ListPhis.{PhiPairs, phiIds, phi-pairs-of}
 use Rattle.lifting_runs.specs.EveryText.{of-walk}
 use Rattle.lifting_runs.specs.Demand3.{accepted, fine, list-is, passed}
-use Rattle.lifting_runs.specs.Controls.{SameButControls, cleared}
+use Rattle.lifting_runs.specs.Controls.{SameButControls, controlsCleared}
 use Rattle.lifting_blocks.specs.Below.{IdsBelow, list-low}
 use Rattle.lifting_blocks.specs.Labels.{LabelsDiffer, kept-parted, list-apart}
 use Rattle.lifting_blocks.specs.Merges.{OwnControl, kept-own, list-own, merge-stays}
@@ -100,11 +100,11 @@ module _ (text : List ℕ) (first func work out : ℕ) (ws : List ℕ) (next : �
       → In j (instructions F first U (kept U))) (λ body. merge-stays F (shaped body) first) (λ i h. absurd (omega arith)) i h n j m)
 
   -- The Rust writes 0 there: with that word cleared the list is that of the function with 0 for each control number, and the next free id is the same.
-  pub list-cleared : map clearedInst (listFrom ws) ≡ listOf (cleared F) first
+  pub list-cleared : map clearedInst (listFrom ws) ≡ listOf (controlsCleared F) first
   list-cleared =
       ap (map clearedInst) (list-is text first func work out ws next ok F is) ∙ sym (list-of-cleared F first (fine text first func work out ws next ok F is .sound))
 
-  pub next-cleared : next ≡ nextId (cleared F) first (walkOf (cleared F)) (kept (walkOf (cleared F)))
+  pub next-cleared : next ≡ nextId (controlsCleared F) first (walkOf (controlsCleared F)) (kept (walkOf (controlsCleared F)))
   next-cleared = passed text first func work out ws next ok F is .next-is ∙ sym (next-of-cleared F first)
 
   ids-of : RunOn first next (givenIds (listFrom ws))

@@ -87,7 +87,7 @@ module _ (c : CfgPoint → ℕ) where
   abbrev pub statusAt : Table → ℕ → Status
   statusAt T i = statusFrom fresh T i
 
-  -- neighbours fused, from the last point back
+  -- neighbours absorbed, from the last point back
   unfoldable pub absorbFrom : (CfgPoint × BlockLifting) → Table → AbsorbedRun
   absorbFrom x [] = record { block = x .1; rest = [] }
   absorbFrom x (y ∷ T) = absorbStep (absorbsNext x y) x (y .0) (absorbFrom y T)
@@ -115,12 +115,12 @@ module _ {A : Type 0} (m : Pass A) where
   unlessAbsorbs false l = l
 
   -- of one visited point
-  unfoldable pub part : Status → Bool → (CfgPoint × BlockLifting) → List A
-  part gone g x = []
-  part starts g x = m .start (x .0) (x .1 .keys) (x .1 .decls) ++ (gather (m .op) (x .1 .ops) ++ unlessAbsorbs g (m .end (x .0) (x .1 .term)))
-  part (goes h) g x = gather (m .op) (x .1 .ops) ++ unlessAbsorbs g (m .end h (x .1 .term))
+  unfoldable pub passPart : Status → Bool → (CfgPoint × BlockLifting) → List A
+  passPart gone g x = []
+  passPart starts g x = m .start (x .0) (x .1 .keys) (x .1 .decls) ++ (gather (m .op) (x .1 .ops) ++ unlessAbsorbs g (m .end (x .0) (x .1 .term)))
+  passPart (goes h) g x = gather (m .op) (x .1 .ops) ++ unlessAbsorbs g (m .end h (x .1 .term))
 
 -- of the point at i
 unfoldable pub partAt : {A : Type 0} → (CfgPoint → ℕ) → Pass A → Table → ℕ → List A
-unfolding part statusFrom absorbsHere
-partAt c m T i = part m (statusAt c T i) (absorbsHere c T i) (getD T i noPair)
+unfolding passPart statusFrom absorbsHere
+partAt c m T i = passPart m (statusAt c T i) (absorbsHere c T i) (getD T i noPair)

@@ -1,4 +1,4 @@
--- What a pass writes of all kept blocks, where neighbours are fused, is what it writes at each visited point, in order. Assumes nothing.
+-- What a pass writes of all kept blocks, where neighbours are absorbed, is what it writes at each visited point, in order. Assumes nothing.
 use mathlib.Core.Path.{_≡_, refl, sym, ap, ap₂, _∙_}
 use mathlib.Core.Bool.{Bool, true, false}
 use mathlib.Core.List.{List, [], _∷_, _++_, append-assoc, append-nil}
@@ -9,7 +9,7 @@ use Rattle.general_laws.specs.Gather.{gather-append}
 use Rattle.general_laws.specs.Lists.{gather}
 use Rattle.lifting.specs.Points.{CfgPoint, BlockLifting, Table}
 use Rattle.lifting.specs.Absorb.{keepIf, keep}
-use Rattle.lifting_blocks.specs.Flat.{upTo, Status, gone, goes, Carry, fresh, off, on, byCount, status, carry, noPair, absorbsNext, absorbsFirst, absorbsHere, statusFrom, AbsorbedRun, absorbStep, absorbFrom, absorbRuns, Pass, blockParts, part, partAt}
+use Rattle.lifting_blocks.specs.Flat.{upTo, Status, gone, goes, Carry, fresh, off, on, byCount, status, carry, noPair, absorbsNext, absorbsFirst, absorbsHere, statusFrom, AbsorbedRun, absorbStep, absorbFrom, absorbRuns, Pass, blockParts, passPart, partAt}
 
 -- the first taken off
 pub upTo-cons : {A : Type 0} (f : ℕ → List A) (n : ℕ) → upTo f (suc n) ≡ f 0 ++ upTo (λ i. f (suc i)) n
@@ -28,26 +28,26 @@ gather-upTo g f zero = refl
 gather-upTo {A} {B} g f (suc n) = gather-append g (upTo f n) (f n) ∙ ap (λ (l : List B). l ++ gather g (f n)) (gather-upTo g f n)
 
 -- the point at i absorbs the one at the next position; the last one absorbs none
-pub glue-next : (c : CfgPoint → ℕ) (T : Table) (i : ℕ) → suc i < length T → absorbsHere c T i ≡ absorbsNext c (getD T i noPair) (getD T (suc i) noPair)
+pub absorb-next : (c : CfgPoint → ℕ) (T : Table) (i : ℕ) → suc i < length T → absorbsHere c T i ≡ absorbsNext c (getD T i noPair) (getD T (suc i) noPair)
 unfolding absorbsHere absorbsFirst
-glue-next c [] i h = absurd (omega arith)
-glue-next c (x ∷ []) i h = absurd (omega arith)
-glue-next c (x ∷ y ∷ T) zero h = refl
-glue-next c (x ∷ y ∷ T) (suc i) h = glue-next c (y ∷ T) i (omega arith)
+absorb-next c [] i h = absurd (omega arith)
+absorb-next c (x ∷ []) i h = absurd (omega arith)
+absorb-next c (x ∷ y ∷ T) zero h = refl
+absorb-next c (x ∷ y ∷ T) (suc i) h = absorb-next c (y ∷ T) i (omega arith)
 
-pub glue-last : (c : CfgPoint → ℕ) (T : Table) (i : ℕ) → length T ≤ suc i → absorbsHere c T i ≡ false
+pub absorb-last : (c : CfgPoint → ℕ) (T : Table) (i : ℕ) → length T ≤ suc i → absorbsHere c T i ≡ false
 unfolding absorbsHere absorbsFirst
-glue-last c [] i h = refl
-glue-last c (x ∷ []) zero h = refl
-glue-last c (x ∷ []) (suc i) h = refl
-glue-last c (x ∷ y ∷ T) zero h = absurd (omega arith)
-glue-last c (x ∷ y ∷ T) (suc i) h = glue-last c (y ∷ T) i (omega arith)
+absorb-last c [] i h = refl
+absorb-last c (x ∷ []) zero h = refl
+absorb-last c (x ∷ []) (suc i) h = refl
+absorb-last c (x ∷ y ∷ T) zero h = absurd (omega arith)
+absorb-last c (x ∷ y ∷ T) (suc i) h = absorb-last c (y ∷ T) i (omega arith)
 
 module _ (c : CfgPoint → ℕ) {A : Type 0} (m : Pass A) where
   -- the parts, from what is carried over
   unfoldable partsFrom : Carry → Table → List A
   partsFrom g [] = []
-  partsFrom g (x ∷ T) = part m (status g (c (x .0))) (absorbsFirst c x T) x ++ partsFrom (carry (status g (c (x .0))) (x .0) (absorbsFirst c x T)) T
+  partsFrom g (x ∷ T) = passPart m (status g (c (x .0))) (absorbsFirst c x T) x ++ partsFrom (carry (status g (c (x .0))) (x .0) (absorbsFirst c x T)) T
 
   -- what is left of a block with the label of h, and what stands behind it
   abbrev ends : CfgPoint → BlockLifting → Table → List A
@@ -59,11 +59,11 @@ module _ (c : CfgPoint → ℕ) {A : Type 0} (m : Pass A) where
     anew : partsFrom fresh (x ∷ T) ≡ blockParts m (keepIf (c (x .0)) (x .0, absorbFrom c x T .block) (keep c (absorbFrom c x T .rest)))
 
   last-on : (h : CfgPoint) (x : CfgPoint × BlockLifting) → partsFrom (on h) (x ∷ []) ≡ ends h (x .1) []
-  unfolding partsFrom part absorbsFirst blockParts
+  unfolding partsFrom passPart absorbsFirst blockParts
   last-on h x = append-assoc (gather (m .op) (x .1 .ops)) (m .end h (x .1 .term)) []
 
-  last-anew : (n : ℕ) (x : CfgPoint × BlockLifting) → part m (byCount n) false x ++ [] ≡ blockParts m (keepIf n x [])
-  unfolding part blockParts
+  last-anew : (n : ℕ) (x : CfgPoint × BlockLifting) → passPart m (byCount n) false x ++ [] ≡ blockParts m (keepIf n x [])
+  unfolding passPart blockParts
   last-anew zero x = refl
   last-anew (suc n) x = refl
 
@@ -77,8 +77,8 @@ module _ (c : CfgPoint → ℕ) {A : Type 0} (m : Pass A) where
     abbrev begun : List A
     begun = m .start (x .0) (x .1 .keys) (x .1 .decls)
 
-    step-on : (h : CfgPoint) (g : Bool) → part m (goes h) g x ++ partsFrom (carry (goes h) (x .0) g) (y ∷ U) ≡ ends h (absorbStep g x (y .0) r .block) (absorbStep g x (y .0) r .rest)
-    unfolding part
+    step-on : (h : CfgPoint) (g : Bool) → passPart m (goes h) g x ++ partsFrom (carry (goes h) (x .0) g) (y ∷ U) ≡ ends h (absorbStep g x (y .0) r .block) (absorbStep g x (y .0) r .rest)
+    unfolding passPart
     step-on h true =
         let theirs : List A = gather (m .op) (r .block .ops) in
         let last : List A = m .end h (r .block .term) ++ blockParts m (keep c (r .rest)) in
@@ -91,9 +91,9 @@ module _ (c : CfgPoint → ℕ) {A : Type 0} (m : Pass A) where
     step-off true = ih .in-none
     step-off false = ih .anew
 
-    step-anew : (n : ℕ) (g : Bool) → part m (byCount n) g x ++ partsFrom (carry (byCount n) (x .0) g) (y ∷ U)
+    step-anew : (n : ℕ) (g : Bool) → passPart m (byCount n) g x ++ partsFrom (carry (byCount n) (x .0) g) (y ∷ U)
         ≡ blockParts m (keepIf n (x .0, absorbStep g x (y .0) r .block) (keep c (absorbStep g x (y .0) r .rest)))
-    unfolding part blockParts
+    unfolding passPart blockParts
     step-anew zero g = step-off g
     step-anew (suc n) true =
         let theirs : List A = gather (m .op) (x .1 .ops ++ r .block .ops) in
@@ -104,7 +104,7 @@ module _ (c : CfgPoint → ℕ) {A : Type 0} (m : Pass A) where
     step-anew (suc n) false = ap (λ (l : List A). (begun ++ (own ++ m .end (x .0) (x .1 .term))) ++ l) (ih .anew)
 
   claims : (x : CfgPoint × BlockLifting) (T : Table) → Claims x T
-  unfolding partsFrom absorbFrom absorbsFirst part blockParts
+  unfolding partsFrom absorbFrom absorbsFirst passPart blockParts
   claims x [] = record { in-one = λ h. last-on h x; in-none = refl; anew = last-anew (c (x .0)) x }
   claims x (y ∷ U) = record {
     in-one = λ h. step-on x y U (claims y U) h (absorbsNext c x y);
@@ -112,10 +112,10 @@ module _ (c : CfgPoint → ℕ) {A : Type 0} (m : Pass A) where
     anew = step-anew x y U (claims y U) (c (x .0)) (absorbsNext c x y);
   }
 
-  fused-parts : (T : Table) → blockParts m (keep c (absorbRuns c T)) ≡ partsFrom fresh T
+  into-parts : (T : Table) → blockParts m (keep c (absorbRuns c T)) ≡ partsFrom fresh T
   unfolding absorbRuns partsFrom blockParts
-  fused-parts [] = refl
-  fused-parts (x ∷ T) = sym (claims x T .anew)
+  into-parts [] = refl
+  into-parts (x ∷ T) = sym (claims x T .anew)
 
   -- by position
   status-shift : (g : Carry) (x : CfgPoint × BlockLifting) (T : Table) (i : ℕ) → statusFrom c g (x ∷ T) (suc i) ≡ statusFrom c (carry (status g (c (x .0))) (x .0) (absorbsFirst c x T)) T i
@@ -124,17 +124,17 @@ module _ (c : CfgPoint → ℕ) {A : Type 0} (m : Pass A) where
   status-shift g x T (suc i) = ap (λ (s : Status). status (carry s (getD T i noPair .0) (absorbsHere c T i)) (c (getD T (suc i) noPair .0))) (status-shift g x T i)
 
   abbrev at : Carry → Table → ℕ → List A
-  at g T i = part m (statusFrom c g T i) (absorbsHere c T i) (getD T i noPair)
+  at g T i = passPart m (statusFrom c g T i) (absorbsHere c T i) (getD T i noPair)
 
   by-position : (g : Carry) (T : Table) → partsFrom g T ≡ upTo (at g T) (length T)
   unfolding partsFrom upTo statusFrom absorbsHere
   by-position g [] = refl
   by-position g (x ∷ T) =
       let k : Carry = carry (status g (c (x .0))) (x .0) (absorbsFirst c x T) in
-      ap (λ (l : List A). part m (status g (c (x .0))) (absorbsFirst c x T) x ++ l)
-      (by-position k T ∙ upTo-same (at k T) (λ i. at g (x ∷ T) (suc i)) (λ i. ap (λ (s : Status). part m s (absorbsHere c T i) (getD T i noPair)) (sym (status-shift g x T i))) (length T))
+      ap (λ (l : List A). passPart m (status g (c (x .0))) (absorbsFirst c x T) x ++ l)
+      (by-position k T ∙ upTo-same (at k T) (λ i. at g (x ∷ T) (suc i)) (λ i. ap (λ (s : Status). passPart m s (absorbsHere c T i) (getD T i noPair)) (sym (status-shift g x T i))) (length T))
       ∙ sym (upTo-cons (at g (x ∷ T)) (length T))
 
   pub parts-flat : (T : Table) → blockParts m (keep c (absorbRuns c T)) ≡ upTo (partAt c m T) (length T)
   unfolding partAt
-  parts-flat T = fused-parts T ∙ by-position fresh T
+  parts-flat T = into-parts T ∙ by-position fresh T

@@ -10,7 +10,7 @@ use Rattle.lifting.specs.Parts.{childrenOf, nodeOf}
 use Rattle.lifting.specs.Points.{BlockLifting, CfgPoint, Terminator, nodeEntry, nodeExit, regionEntry, regionExit, straight}
 use Rattle.lifting.specs.Walk.{inBlock, walkOf}
 use Rattle.lifting_blocks.specs.Flat.{noPair}
-use Rattle.lifting_blocks.specs.Chain.{chain-at, chain-map, next-at}
+use Rattle.lifting_blocks.specs.Chain.{chain-getD, chain-map, next-at}
 use Rattle.lifting_runs.specs.Shaped.{Shaped}
 use Rattle.lifting_blocks.specs.Steps.{Step, step-entry, step-exit, step-in, step-out, walk-steps}
 
@@ -49,6 +49,6 @@ module _ (F : Func) where
   pub walk-follows : Shaped F → (i : ℕ) → i < length (walkOf F) → goesOn F (getD (walkOf F) i noPair .0) ≡ true
       → (suc i < length (walkOf F)) × (getD (walkOf F) i noPair .1 .term ≡ straight (getD (walkOf F) (suc i) noPair .0))
   walk-follows ok i l e =
-      let w = chain-at Goes (walkOf F) none (chain-map (Step F) Goes step-goes (walkOf F) none (walk-steps F ok)) i l e in
+      let w = chain-getD Goes (walkOf F) none (chain-map (Step F) Goes step-goes (walkOf F) none (walk-steps F ok)) i l e in
       let r = next-at (walkOf F) i (w .0) (w .1) in
       (r .0, w .2 ∙ ap straight (r .1))

@@ -23,16 +23,16 @@ use Rattle.lifting_runs.specs.Refers.{Refers}
 use Rattle.lifting_runs.specs.Terms.{TermOk}
 use Rattle.lifting_blocks.specs.Flat.{Pass, blockParts, absorbRuns, gone, noPair, partAt, statusAt, upTo}
 use Rattle.lifting_runs.specs.Shaped.{Shaped, walk-first, walk-once}
-use Rattle.lifting_blocks.specs.Chain.{chain-at, firstOf}
+use Rattle.lifting_blocks.specs.Chain.{chain-getD, firstInTable}
 use Rattle.lifting_blocks.specs.Steps.{Step, walk-steps}
 use Rattle.lifting_blocks.specs.Follow.{goesOn, walk-follows}
 use Rattle.lifting_blocks.specs.Uses.{labels-visited}
 use Rattle.lifting_blocks.specs.Totals.{allLabels, total, total-uses, use-count, usesOf}
-use Rattle.lifting_blocks.specs.Neighbours.{Near, kept-fused}
+use Rattle.lifting_blocks.specs.Neighbours.{Near, kept-into}
 use Rattle.lifting_blocks.specs.Nearby.{walk-near}
 use Rattle.lifting_blocks.specs.NeverDecides.{by-count-alone, keptByCount}
 use Rattle.lifting_blocks.specs.Phis.{SamePhis, edge-kept, phi-keys-kept, with-phis}
-use Rattle.lifting_blocks.specs.SetIds.{id-at, names-once, set-id}
+use Rattle.lifting_blocks.specs.SetIds.{id-at, shaped-names-once, set-id}
 use Rattle.lifting_blocks.specs.Kept.{edge-fits, label-kept}
 use Rattle.lifting_blocks.specs.Standing.{stands-term}
 use Rattle.lifting_blocks.specs.Missing.{list-set}
@@ -58,8 +58,8 @@ module _ (F : Func) where
     body-first = ap (λ (U : Table). getD U 0 noPair .0) (walk-first F ok .1)
 
     -- Each entry is the entry or exit of a visited region, or of a node in one, with the point that comes next.
-    pub steps : (i : ℕ) → i < length T → Step F (getD T i noPair) (firstOf (drop (suc i) T) none)
-    steps = chain-at (Step F) T none (walk-steps F ok)
+    pub steps : (i : ℕ) → i < length T → Step F (getD T i noPair) (firstInTable (drop (suc i) T) none)
+    steps = chain-getD (Step F) T none (walk-steps F ok)
 
     -- A region's entry, a block's entry and a node's exit go straight to the point that is visited next.
     pub follows : (i : ℕ) → i < length T → goesOn F (getD T i noPair .0) ≡ true → (suc i < length T) × (getD T i noPair .1 .term ≡ straight (getD T (suc i) noPair .0))
@@ -76,12 +76,12 @@ module _ (F : Func) where
     pub all-counted : total (useCount T) (points T) ≡ suc (length (allLabels T))
     all-counted = total-uses F ok
 
-    -- Absorption. A block only ever absorbs the point right after it, so absorption in reverse order is fusing neighbours.
+    -- Absorption. A block only ever absorbs the point right after it, so absorption in reverse order is absorbing neighbours.
     pub near : Near (useCount T) T
     near = walk-near F ok
 
     pub kept-is : K ≡ keep (useCount T) (absorbRuns (useCount T) T)
-    kept-is = kept-fused T each-once near
+    kept-is = kept-into T each-once near
 
     -- Passes. Any pass over the kept blocks is one flat pass over the visited points.
     pub pass-is : {A : Type 0} (m : Pass A) → blockParts m K ≡ upTo (at m) (length T)
@@ -90,10 +90,10 @@ module _ (F : Func) where
     pub points-are : points K ≡ upTo (at ListFlat.heads) (length T)
     points-are = ListFlat.points-flat T each-once near
 
-    pub results-are : opKeys F K ≡ upTo (at (ListFlat.results F)) (length T)
+    pub results-are : opKeys F K ≡ upTo (at (ListFlat.resultPass F)) (length T)
     results-are = ListFlat.results-flat T each-once near F
 
-    pub names-are : names F T K ≡ theFunction ∷ (map value (paramKeys F ++ (phiKeys T ++ upTo (at (ListFlat.results F)) (length T))) ++ map label (upTo (at ListFlat.heads) (length T)))
+    pub names-are : names F T K ≡ theFunction ∷ (map value (paramKeys F ++ (phiKeys T ++ upTo (at (ListFlat.resultPass F)) (length T))) ++ map label (upTo (at ListFlat.heads) (length T)))
     unfolding names
     names-are = ap₂ (λ (vs : List Value) (ps : List CfgPoint). theFunction ∷ (map value (paramKeys F ++ (phiKeys T ++ vs)) ++ map label ps)) results-are points-are
 
@@ -132,12 +132,12 @@ module _ (F : Func) where
     pub phi-keys-are : phiKeys K ≡ phiKeys T
     phi-keys-are = phi-keys-kept F ok
 
-    pub edge-is : (t : Terminator) (q : CfgPoint) → edgeOf K t q ≡ edgeOf T t q
-    edge-is = edge-kept F ok
+    pub edge-unchanged : (t : Terminator) (q : CfgPoint) → edgeOf K t q ≡ edgeOf T t q
+    edge-unchanged = edge-kept F ok
 
     -- Ids. No name stands twice, and the k-th name has the k-th id.
-    pub no-name-twice : NoDup (names F T K)
-    no-name-twice = names-once F ok
+    pub list-names-once : NoDup (names F T K)
+    list-names-once = shaped-names-once F ok
 
     pub ids-in-order : (first k : ℕ) → k < length (names F T K) → newId F first T K (getD (names F T K) k theFunction) ≡ first + k
     ids-in-order = id-at F ok

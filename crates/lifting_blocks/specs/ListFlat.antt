@@ -17,15 +17,15 @@ use Rattle.lifting.specs.Answer.{blockUses, usedValues}
 use Rattle.lifting_blocks.specs.Gathered.{insts-gather, pairs-gather, points-gather, words-gather}
 use Rattle.lifting_blocks.specs.Flat.{Pass, blockParts, partAt, upTo}
 use Rattle.lifting_blocks.specs.FlatLaws.{gather-upTo, parts-flat, upTo-same}
-use Rattle.lifting_blocks.specs.Neighbours.{Near, Once, kept-fused}
+use Rattle.lifting_blocks.specs.Neighbours.{Near, Once, kept-into}
 
 -- the point of each block: its label
 abbrev pub heads : Pass CfgPoint
 heads = record { start = λ p ks ds. p ∷ []; op = λ i. []; end = λ p t. [] }
 
 -- the results of ops
-abbrev pub results : Func → Pass Value
-results F = record { start = λ p ks ds. []; op = λ i. resultOf (opOf F i .type) i; end = λ p t. [] }
+abbrev pub resultPass : Func → Pass Value
+resultPass F = record { start = λ p ks ds. []; op = λ i. resultOf (opOf F i .type) i; end = λ p t. [] }
 
 -- what a block reads: operands, inputs of its way out, values along its edges
 abbrev pub reading : Func → Table → Pass Value
@@ -53,9 +53,9 @@ heads-parts : (L : Table) → points L ≡ blockParts heads L
 unfolding blockParts
 heads-parts L = points-gather L ∙ gather-same _ _ (λ x. ap (λ (l : List CfgPoint). x .0 ∷ (l ++ [])) (sym (gather-none (x .1 .ops)))) L
 
-results-parts : (F : Func) (L : Table) → opKeys F L ≡ blockParts (results F) L
+results-parts : (F : Func) (L : Table) → opKeys F L ≡ blockParts (resultPass F) L
 unfolding blockParts
-results-parts F L = gather-same _ _ (λ x. sym (append-nil (gather (results F .op) (x .1 .ops)))) L
+results-parts F L = gather-same _ _ (λ x. sym (append-nil (gather (resultPass F .op) (x .1 .ops)))) L
 
 reading-parts : (F : Func) (K L : Table) → gather (λ x. blockUses F K (x .1)) L ≡ blockParts (reading F K) L
 unfolding blockParts
@@ -75,13 +75,13 @@ writing-parts F first T K L =
 module _ (T : Table) (once : Once T) (near : Near (useCount T) T) where
   -- any pass over the kept blocks
   pub pass-flat : {A : Type 0} (m : Pass A) → blockParts m (kept T) ≡ upTo (partAt (useCount T) m T) (length T)
-  pass-flat m = ap (blockParts m) (kept-fused T once near) ∙ parts-flat (useCount T) m T
+  pass-flat m = ap (blockParts m) (kept-into T once near) ∙ parts-flat (useCount T) m T
 
   pub points-flat : points (kept T) ≡ upTo (partAt (useCount T) heads T) (length T)
   points-flat = heads-parts (kept T) ∙ pass-flat heads
 
-  pub results-flat : (F : Func) → opKeys F (kept T) ≡ upTo (partAt (useCount T) (results F) T) (length T)
-  results-flat F = results-parts F (kept T) ∙ pass-flat (results F)
+  pub results-flat : (F : Func) → opKeys F (kept T) ≡ upTo (partAt (useCount T) (resultPass F) T) (length T)
+  results-flat F = results-parts F (kept T) ∙ pass-flat (resultPass F)
 
   pub used-flat : (F : Func) → usedValues F (kept T) ≡ upTo (partAt (useCount T) (reading F (kept T)) T) (length T)
   used-flat F = reading-parts F (kept T) (kept T) ∙ pass-flat (reading F (kept T))

@@ -21,7 +21,7 @@ use Rattle.lifting.specs.Parts.{nodeControl, nodeOf}
 use Rattle.lifting.specs.Limits.{maxControl}
 use Rattle.lifting.specs.Points.{BlockLifting, CfgPoint, Merge, Table, Terminator, loopMerge, noMerge, nodeExit, regionExit, selectionMerge}
 use Rattle.lifting.specs.Walk.{Place, exitTerm, inBlock, walkOf}
-use Rattle.lifting.specs.Absorb.{ifBranch, ifEmpty, ifNoMerge, ifZero, kept, single, soleTarget, useCount}
+use Rattle.lifting.specs.Absorb.{ifBranch, ifEmpty, ifNoMerge, ifZero, kept, theOnly, soleTarget, useCount}
 use Rattle.lifting.specs.Ids.{labelOf}
 use Rattle.lifting.specs.Instructions.{Instruction, bodyInsts, endInst, functionInst, instructions, labelInst, loopControl, mergeInsts, opInst, paramInst, paramInsts, phiInst, selectionControl, short, termInst}
 use Rattle.lifting.specs.BlockRun.{isMerge}
@@ -31,8 +31,8 @@ use Rattle.lifting_runs.specs.Each.{Each, each-kept, every-walked}
 use Rattle.lifting_runs.specs.EmitRun.{BlockOk, Sound, free-of}
 use Rattle.lifting_runs.specs.Listing.{all-blocks, all-body, all-list, all-params, all-phis, no-merges}
 use Rattle.lifting_runs.specs.Shaped.{Shaped}
-use Rattle.lifting_blocks.specs.Flat.{Status, absorbsHere, absorbsNext, absorbsTarget, goes, gone, noPair, part, partAt, starts, statusAt, upTo}
-use Rattle.lifting_blocks.specs.FlatLaws.{glue-last, glue-next}
+use Rattle.lifting_blocks.specs.Flat.{Status, absorbsHere, absorbsNext, absorbsTarget, goes, gone, noPair, passPart, partAt, starts, statusAt, upTo}
+use Rattle.lifting_blocks.specs.FlatLaws.{absorb-last, absorb-next}
 use Rattle.lifting_blocks.specs.ListFlat.{writing}
 use Rattle.lifting_blocks.specs.Uses.{exit-merge}
 use Rattle.lifting_blocks.specs.Laws.{instructions-are}
@@ -123,7 +123,7 @@ sole-none t n =
     ∙ ap (ifZero (t .attrs)) (by-kind (t .kind))
     ∙ by-attrs (t .attrs)
   where
-    by-merge : (m : Merge) → ¬ (m ≡ noMerge) → ifNoMerge m (single (t .targets)) ≡ none
+    by-merge : (m : Merge) → ¬ (m ≡ noMerge) → ifNoMerge m (theOnly (t .targets)) ≡ none
     by-merge noMerge n = absurd (n refl)
     by-merge (selectionMerge a u) n = refl
     by-merge (loopMerge a b u) n = refl
@@ -163,16 +163,16 @@ module _ (F : Func) (ok : Shaped F) (first : ℕ) where
   at i = getD (walkOf F) i noPair
 
   -- it absorbs nothing, so its way out is that of the block in which it stands
-  not-glued : (i : ℕ) → soleTarget (at i .1 .term) ≡ none → absorbsHere (useCount T) T i ≡ false
+  not-absorbing : (i : ℕ) → soleTarget (at i .1 .term) ≡ none → absorbsHere (useCount T) T i ≡ false
   unfolding absorbsNext
-  not-glued i e = by-case (decLt (suc i) (length T))
+  not-absorbing i e = by-case (decLt (suc i) (length T))
     where
       by-case : Dec (suc i < length T) → absorbsHere (useCount T) T i ≡ false
-      by-case (yes h) = glue-next (useCount T) T i h ∙ ap (λ (o : Option CfgPoint). absorbsTarget o (at (suc i) .0) (useCount T (at (suc i) .0)) (at (suc i) .1 .keys)) e
-      by-case (no n) = glue-last (useCount T) T i (omega arith)
+      by-case (yes h) = absorb-next (useCount T) T i h ∙ ap (λ (o : Option CfgPoint). absorbsTarget o (at (suc i) .0) (useCount T (at (suc i) .0)) (at (suc i) .1 .keys)) e
+      by-case (no n) = absorb-last (useCount T) T i (omega arith)
 
-  in-part : (j : Instruction) (x : CfgPoint × BlockLifting) (s : Status) → ¬ (s ≡ gone) → In j (mergeInsts F first T K (x .1 .term .merge)) → In j (part (writing F first T K) s false x)
-  unfolding part
+  in-part : (j : Instruction) (x : CfgPoint × BlockLifting) (s : Status) → ¬ (s ≡ gone) → In j (mergeInsts F first T K (x .1 .term .merge)) → In j (passPart (writing F first T K) s false x)
+  unfolding passPart
   in-part j x gone n i = absurd (n refl)
   in-part j x starts n i = in-right (writing F first T K .start (x .0) (x .1 .keys) (x .1 .decls)) (in-right (gather (writing F first T K .op) (x .1 .ops)) (in-left (termInst F first T K (x .1 .term) ∷ []) i))
   in-part j x (goes h) n i = in-right (gather (writing F first T K .op) (x .1 .ops)) (in-left (termInst F first T K (x .1 .term) ∷ []) i)
@@ -181,7 +181,7 @@ module _ (F : Func) (ok : Shaped F) (first : ℕ) where
       → In j (mergeInsts F first (walkOf F) (kept (walkOf F)) (getD (walkOf F) i noPair .1 .term .merge)) → In j (instructions F first (walkOf F) (kept (walkOf F)))
   unfolding instructions partAt mergeInsts
   merge-stays i h n j m =
-      let none-there = not-glued i (sole-none (at i .1 .term) (λ e. in-nil (subst (λ (g : Merge). In j (mergeInsts F first T K g)) e m))) in
-      let in-it = subst (λ (b : Bool). In j (part (writing F first T K) (statusAt (useCount T) T i) b (at i))) (sym none-there) (in-part j (at i) (statusAt (useCount T) T i) n m) in
+      let none-there = not-absorbing i (sole-none (at i .1 .term) (λ e. in-nil (subst (λ (g : Merge). In j (mergeInsts F first T K g)) e m))) in
+      let in-it = subst (λ (b : Bool). In j (passPart (writing F first T K) (statusAt (useCount T) T i) b (at i))) (sym none-there) (in-part j (at i) (statusAt (useCount T) T i) n m) in
       let in-blocks = subst (λ (l : List Instruction). In j l) (sym (instructions-are F ok first)) (in-upTo (partAt (useCount T) (writing F first T K) T) (length T) i h in-it) in
       there (in-right (paramInsts F first T K (F .params) 0) (in-left (endInst F first T K ∷ []) in-blocks))

@@ -25,7 +25,7 @@ use Rattle.lifting_runs.specs.Refers.{Refers}
 use Rattle.lifting_runs.specs.Used.{settles}
 use Rattle.lifting_runs.specs.AcceptedRuns.{someWorld, sound}
 use Rattle.lifting_runs.specs.AbsorbCount.{in-count}
-use Rattle.lifting_runs.specs.Ids.{KnownIds, id-positive, number-low}
+use Rattle.lifting_runs.specs.Ids.{KnownIds, id-positive, number-from}
 use Rattle.lifting_runs.specs.EmitRun.{BlockOk, OpOk, point-named}
 use Rattle.lifting_runs.specs.Tour.{in-points}
 use Rattle.general_laws.specs.Tests.{every-in, find-in}
@@ -109,7 +109,7 @@ module _ (F : Func) (ok : Shaped F) (refs : Refers F) (first : ℕ) (num : Numbe
   -- a kept block's label has an id
   label-set : (p : CfgPoint) → In p (points K) → 0 < labelOf F first T K p
   unfolding labelOf newId
-  label-set p i = omega (arith, num .positive, number-low first (label p) (names F T K) (point-named F first T K p i))
+  label-set p i = omega (arith, num .positive, number-from first (label p) (names F T K) (point-named F first T K p i))
 
   abbrev insts : List Instruction
   insts = blockInsts F first T K K

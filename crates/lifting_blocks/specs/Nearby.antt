@@ -16,15 +16,15 @@ use Rattle.lifting.specs.Absorb.{ifEmpty, labels, soleTarget, useCount}
 use Rattle.general_laws.specs.Members.{In, here}
 use Rattle.lifting_runs.specs.Places.{Suffix, VisitedAt, at-body, by-ctrl, in-case, in-loop}
 use Rattle.lifting_runs.specs.AbsorbCount.{sole-straight}
-use Rattle.lifting_blocks.specs.Chain.{chain-map, none-some, some-same}
+use Rattle.lifting_blocks.specs.Chain.{chain-map, none-some, some-injective}
 use Rattle.lifting_blocks.specs.Beside.{Leads}
 use Rattle.lifting_runs.specs.Shaped.{Shaped, laid}
-use Rattle.lifting_blocks.specs.Steps.{Onto, Step, entryOf, step-entry, step-exit, step-in, step-out, walk-steps}
+use Rattle.lifting_blocks.specs.Steps.{Onto, Step, entryPoint, step-entry, step-exit, step-in, step-out, walk-steps}
 use Rattle.lifting_blocks.specs.Uses.{Uses, before-node, from-block, leads-there, merge-select, used-twice}
 use Rattle.lifting_blocks.specs.Neighbours.{Ahead, Near}
 
 vals-ahead : (q : CfgPoint) (vs : List Value) (t : CfgPoint) → ifEmpty (someVals q vs) (some q) ≡ some t → t ≡ q
-vals-ahead q [] t e = some-same e
+vals-ahead q [] t e = some-injective e
 vals-ahead q (v ∷ vs) t e = absurd (none-some e)
 
 module _ (F : Func) (ok : Shaped F) where
@@ -90,7 +90,7 @@ module _ (F : Func) (ok : Shaped F) where
       by-case (w .0) (w .1) (w .2) (w .3) (w .4) (beside (w .0) (w .1) (w .2) (w .3))
     where
       by-case : (c : ControlInst) (s : ℕ) → ctrlOf F r ≡ some c → c .to ≡ s ∷ [] → t ≡ regionEntry s → (n ≡ some s) ⊎ ((p : ℕ) × (¬ (p ≡ r)) × VisitedAt F p top × Leads F p s) → o ≡ some t
-      by-case c s q z h (inl k) = follows ∙ ap entryOf k ∙ ap some (sym h)
+      by-case c s q z h (inl k) = follows ∙ ap entryPoint k ∙ ap some (sym h)
       by-case c s q z h (inr (p, apart, vp, l)) =
           absurd (busy h (used-twice T (regionExit p) (regionExit r) (regionEntry s) (λ x. apart (exit-same x)) (leads-there F ok vp l) (leads-there F ok v (c, q, subst (In s) (sym z) here))) u)
         where

@@ -1,4 +1,4 @@
--- Where a block only ever absorbs its neighbour, absorption over the points in reverse order, as the definition has it, is fusing neighbours
+-- Where a block only ever absorbs its neighbour, absorption over the points in reverse order, as the definition has it, is absorbing neighbours
 -- from the last point back. Assumes nothing.
 use mathlib.Core.Path.{_≡_, refl, sym, ap, ap₂, subst, _∙_}
 use mathlib.Core.Logic.{inl, inr}
@@ -16,7 +16,7 @@ use Rattle.general_laws.specs.Members.{In, here, there, in-nil, in-cases, in-ri
 use Rattle.lifting_runs.specs.AbsorbCount.{refit-other}
 use Rattle.lifting_runs.specs.Tour.{points-append, unique-of, find-unique}
 use Rattle.lifting_blocks.specs.Flat.{noKeys, absorbsTarget, absorbsNext, AbsorbedRun, absorbStep, absorbFrom, absorbRuns}
-use Rattle.lifting_blocks.specs.Chain.{Chain, none-some, some-same}
+use Rattle.lifting_blocks.specs.Chain.{Chain, none-some, some-injective}
 
 -- each point once
 abbrev pub Once : Table → Type 0
@@ -52,21 +52,21 @@ pub block-in : (T : Table) → Once T → (x : CfgPoint × BlockLifting) → In 
 block-in T o x i = ap blockOr (find-unique T (unique-of T o) (x .0) (x .1) i)
 
 -- one absorption, of a neighbour
-fuse-append : (b t : CfgPoint) (d : BlockLifting) (P L : Table) → absorbInto b t d (P ++ L) ≡ absorbInto b t d P ++ absorbInto b t d L
-fuse-append b t d [] L = refl
-fuse-append b t d (x ∷ P) L = ap (λ (M : Table). (x .0, refit b t d (x .0) (x .1)) ∷ M) (fuse-append b t d P L)
+absorb-append : (b t : CfgPoint) (d : BlockLifting) (P L : Table) → absorbInto b t d (P ++ L) ≡ absorbInto b t d P ++ absorbInto b t d L
+absorb-append b t d [] L = refl
+absorb-append b t d (x ∷ P) L = ap (λ (M : Table). (x .0, refit b t d (x .0) (x .1)) ∷ M) (absorb-append b t d P L)
 
-fuse-away : (b t : CfgPoint) (d : BlockLifting) (L : Table) → Absent b L → Absent t L → absorbInto b t d L ≡ L
-fuse-away b t d [] h k = refl
-fuse-away b t d (x ∷ L) h k =
+absorb-away : (b t : CfgPoint) (d : BlockLifting) (L : Table) → Absent b L → Absent t L → absorbInto b t d L ≡ L
+absorb-away b t d [] h k = refl
+absorb-away b t d (x ∷ L) h k =
     ap₂ (λ (e : BlockLifting) (M : Table). (x .0, e) ∷ M) (refit-other b t d (x .0) (x .1) (λ q. absent-head k (sym q)) (λ q. absent-head h (sym q)))
-    (fuse-away b t d L (λ i. h (there i)) (λ i. k (there i)))
+    (absorb-away b t d L (λ i. h (there i)) (λ i. k (there i)))
 
-fuse-pair : (x y : CfgPoint × BlockLifting) (d : BlockLifting) (L : Table) → Once (x ∷ y ∷ L) → absorbInto (x .0) (y .0) d (x ∷ y ∷ L) ≡ (x .0, joined (x .1) d) ∷ (y .0, emptied (y .1)) ∷ L
-fuse-pair x y d L o =
+absorb-pair : (x y : CfgPoint × BlockLifting) (d : BlockLifting) (L : Table) → Once (x ∷ y ∷ L) → absorbInto (x .0) (y .0) d (x ∷ y ∷ L) ≡ (x .0, joined (x .1) d) ∷ (y .0, emptied (y .1)) ∷ L
+absorb-pair x y d L o =
     ap₂ (λ (e : BlockLifting) (M : Table). (x .0, e) ∷ M) (choose-no (eqPoint (x .0) (y .0)) _ _ (absent-head (o .0)) ∙ choose-yes (eqPoint (x .0) (x .0)) (joined (x .1) d) (x .1) refl)
     (ap₂ (λ (e : BlockLifting) (M : Table). (y .0, e) ∷ M) (choose-yes (eqPoint (y .0) (y .0)) (emptied (y .1)) _ refl)
-    (fuse-away (x .0) (y .0) d L (λ i. o .0 (there i)) (o .1 .0)))
+    (absorb-away (x .0) (y .0) d L (λ i. o .0 (there i)) (o .1 .0)))
 
 -- As the definition leaves it: an absorbed block is emptied and keeps its place, and its count is 0.
 module _ (c : CfgPoint → ℕ) where
@@ -230,9 +230,9 @@ module _ (c : CfgPoint → ℕ) where
     unfolding taken
     taken-left = ap (λ (T : Table). state T (λ q. choose (eqPoint q (y .0)) 0 (lowFrom y U q)))
         (ap (λ (d : BlockLifting). absorbInto (x .0) (y .0) d before) second
-        ∙ fuse-append (x .0) (y .0) (r .block) P _
-        ∙ ap₂ (λ (A B : Table). A ++ B) (fuse-away (x .0) (y .0) (r .block) P (once-apart P _ once-before (x .0) here) (once-apart P _ once-before (y .0) (there here)))
-        (fuse-pair x (y .0, r .block) (r .block) (r .rest) own))
+        ∙ absorb-append (x .0) (y .0) (r .block) P _
+        ∙ ap₂ (λ (A B : Table). A ++ B) (absorb-away (x .0) (y .0) (r .block) P (once-apart P _ once-before (x .0) here) (once-apart P _ once-before (y .0) (there here)))
+        (absorb-pair x (y .0, r .block) (r .block) (r .rest) own))
 
     by-keys : (t : CfgPoint) → t ≡ y .0 → (ks : List Value) → ifNoPhis ks (taken t) S ≡ left (noKeys ks)
     by-keys t e [] = ap taken e ∙ taken-left
@@ -245,7 +245,7 @@ module _ (c : CfgPoint → ℕ) where
         → choose d (ifNoPhis (blockAt before t .keys) (taken t) S) S ≡ left (choose g (choose h (noKeys (y .1 .keys)) false) false)
     by-count t e (yes q) (yes p) (yes u) = ap (λ (ks : List Value). ifNoPhis ks (taken t) S) (keys-there t p) ∙ by-keys t p (y .1 .keys)
     by-count t e (yes q) (yes p) (no u) = absurd (u (ap c (sym p) ∙ low-one y U t q))
-    by-count t e (yes q) (no p) h = absurd (p (some-same (near t e (low-one y U t q))))
+    by-count t e (yes q) (no p) h = absurd (p (some-injective (near t e (low-one y U t q))))
     by-count t e (no q) (yes p) (yes u) = absurd (q (ap (lowFrom y U) p ∙ low-absent y U (y .0) (rw (laid-points y U) at (own .1 .0)) ∙ u))
     by-count t e (no q) (yes p) (no u) = refl
     by-count t e (no q) (no p) h = refl
@@ -272,6 +272,6 @@ module _ (c : CfgPoint → ℕ) where
       ∙ ap (λ (T : Table). state T (lowFrom y U)) (shift (laid (y ∷ U))))
       ∙ turn-more P x y U o (n .0)
 
-pub kept-fused : (T : Table) → Once T → Near (useCount T) T → kept T ≡ keep (useCount T) (absorbRuns (useCount T) T)
+pub kept-into : (T : Table) → Once T → Near (useCount T) T → kept T ≡ keep (useCount T) (absorbRuns (useCount T) T)
 unfolding kept
-kept-fused T o n = ap (λ (s : Absorbing). keep (s .counts) (s .table)) (absorbed (useCount T) [] T o n) ∙ keep-all (useCount T) T o
+kept-into T o n = ap (λ (s : Absorbing). keep (s .counts) (s .table)) (absorbed (useCount T) [] T o n) ∙ keep-all (useCount T) T o

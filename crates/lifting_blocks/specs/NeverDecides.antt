@@ -20,7 +20,7 @@ use Rattle.general_laws.specs.Members.{In, all-from, all-in, here}
 use Rattle.general_laws.specs.Tests.{find-in}
 use Rattle.lifting_runs.specs.Places.{Suffix, VisitedAt}
 use Rattle.lifting_runs.specs.AbsorbCount.{block-keys, sole-straight}
-use Rattle.lifting_runs.specs.Each.{Each, each-at, each-fuse, taken}
+use Rattle.lifting_runs.specs.Each.{Each, each-at, each-absorb, absorbedBy}
 use Rattle.lifting_runs.specs.Terms.{TermOk}
 use Rattle.lifting_runs.specs.Ended.{EndedCase}
 use Rattle.lifting_runs.specs.Shaped.{Shaped, laid, terms, walk-once}
@@ -32,7 +32,7 @@ use Rattle.lifting_blocks.specs.Nearby.{child-busy, loop-busy}
 -- as `tryTarget`, without the test: if the target has use count 1
 abbrev pub tryByCount : CfgPoint → Option CfgPoint → Absorbing → Absorbing
 tryByCount b none s = s
-tryByCount b (some t) s = choose (ℕ-discrete (s .counts t) 1) (taken b t s) s
+tryByCount b (some t) s = choose (ℕ-discrete (s .counts t) 1) (absorbedBy b t s) s
 
 -- over points in reverse order
 abbrev pub absorbByCount : List CfgPoint → Absorbing → Absorbing
@@ -57,9 +57,9 @@ module _ (T : Table) where
   nothing-clear : Clear (plain nothingHere)
   nothing-clear t e u = absurd (none-some e)
 
-  stays-after : (b t : CfgPoint) (s : Absorbing) → Stays s → Stays (taken b t s)
+  stays-after : (b t : CfgPoint) (s : Absorbing) → Stays s → Stays (absorbedBy b t s)
   stays-after b t s h = record {
-    clear = each-fuse Clear nothing-clear (λ d k. nothing-clear) (λ d e k l. l) b t (blockAt (s .table) t) (each-at Clear nothing-clear (s .table) (h .clear) t) (s .table) (h .clear);
+    clear = each-absorb Clear nothing-clear (λ d k. nothing-clear) (λ d e k l. l) b t (blockAt (s .table) t) (each-at Clear nothing-clear (s .table) (h .clear) t) (s .table) (h .clear);
     phis = λ q. block-keys b t (blockAt (s .table) t) (s .table) q .0 ∙ h .phis q;
     ones = λ q. by-point q (eqPoint q t);
   }
@@ -72,10 +72,10 @@ module _ (T : Table) where
   try-same b s h none e = (refl, h)
   try-same b s h (some t) e = by-count (ℕ-discrete (s .counts t) 1)
     where
-      by-count : (d : Dec (s .counts t ≡ 1)) → (choose d (taken b t s) s ≡ choose d (ifNoPhis (blockAt (s .table) t .keys) (taken b t s) s) s) × Stays (choose d (ifNoPhis (blockAt (s .table) t .keys) (taken b t s) s) s)
+      by-count : (d : Dec (s .counts t ≡ 1)) → (choose d (absorbedBy b t s) s ≡ choose d (ifNoPhis (blockAt (s .table) t .keys) (absorbedBy b t s) s) s) × Stays (choose d (ifNoPhis (blockAt (s .table) t .keys) (absorbedBy b t s) s) s)
       by-count (yes u) =
           let none-there : blockAt (s .table) t .keys ≡ [] = h .phis t ∙ each-at Clear nothing-clear (s .table) (h .clear) b t e (h .ones t u) in
-          subst (λ (ks : List Value). (taken b t s ≡ ifNoPhis ks (taken b t s) s) × Stays (ifNoPhis ks (taken b t s) s)) (sym none-there) (refl, stays-after b t s h)
+          subst (λ (ks : List Value). (absorbedBy b t s ≡ ifNoPhis ks (absorbedBy b t s) s) × Stays (ifNoPhis ks (absorbedBy b t s) s)) (sym none-there) (refl, stays-after b t s h)
       by-count (no n) = (refl, h)
 
   all-same : (l : List CfgPoint) (s : Absorbing) → Stays s → (absorbByCount l s ≡ absorbAll l s) × Stays (absorbAll l s)

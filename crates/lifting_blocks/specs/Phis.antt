@@ -25,7 +25,7 @@ use Rattle.lifting_blocks.specs.Chain.{chain-all}
 use Rattle.lifting_runs.specs.Shaped.{Shaped, leads, tidy, walk-once}
 use Rattle.lifting_blocks.specs.Steps.{Step, step-entry, step-exit, step-in, step-out, walk-steps}
 use Rattle.lifting_blocks.specs.Uses.{before-node, leads-there, merge-select, used-once}
-use Rattle.lifting_blocks.specs.Neighbours.{kept-fused}
+use Rattle.lifting_blocks.specs.Neighbours.{kept-into}
 use Rattle.lifting_blocks.specs.Nearby.{walk-near}
 
 -- the blocks of a table that have phis, without their ops and ways out
@@ -59,9 +59,9 @@ module _ (c : CfgPoint → ℕ) where
   no-keys [] e = refl
   no-keys (k ∷ ks) e = absurd (false≢true e)
 
-  glued-keys : (x y : CfgPoint × BlockLifting) → absorbsNext c x y ≡ true → y .1 .keys ≡ []
+  absorbing-keys : (x y : CfgPoint × BlockLifting) → absorbsNext c x y ≡ true → y .1 .keys ≡ []
   unfolding absorbsNext
-  glued-keys x y e = by-target (soleTarget (x .1 .term)) e
+  absorbing-keys x y e = by-target (soleTarget (x .1 .term)) e
     where
       by-case : {P Q : Type 0} (d : Dec P) (g : Dec Q) → choose d (choose g (noKeys (y .1 .keys)) false) false ≡ true → y .1 .keys ≡ []
       by-case (yes p) (yes q) e = no-keys (y .1 .keys) e
@@ -73,29 +73,29 @@ module _ (c : CfgPoint → ℕ) where
       by-target (some t) e = by-case (eqPoint t (y .0)) (ℕ-discrete (c (y .0)) 1) e
 
   -- a block that absorbs keeps its phis
-  fused-at : (x : CfgPoint × BlockLifting) (T : Table) → (absorbFrom c x T .block .keys ≡ x .1 .keys) × (emptied (absorbFrom c x T .block) ≡ emptied (x .1))
+  into-at : (x : CfgPoint × BlockLifting) (T : Table) → (absorbFrom c x T .block .keys ≡ x .1 .keys) × (emptied (absorbFrom c x T .block) ≡ emptied (x .1))
   unfolding absorbFrom
-  fused-at x [] = (refl, refl)
-  fused-at x (y ∷ T) = by-case (absorbsNext c x y)
+  into-at x [] = (refl, refl)
+  into-at x (y ∷ T) = by-case (absorbsNext c x y)
     where
       by-case : (g : Bool) → (absorbStep g x (y .0) (absorbFrom c y T) .block .keys ≡ x .1 .keys) × (emptied (absorbStep g x (y .0) (absorbFrom c y T) .block) ≡ emptied (x .1))
       by-case true = (refl, refl)
       by-case false = (refl, refl)
 
-  fused-phis : (x : CfgPoint × BlockLifting) (T : Table) → phisAt (x .0, absorbFrom c x T .block) ≡ phisAt x
-  fused-phis x T = let w = fused-at x T in ap₂ (λ (ks : List Value) (b : BlockLifting). ifPhis ks ((x .0, b) ∷ [])) (w .0) (w .1)
+  into-phis : (x : CfgPoint × BlockLifting) (T : Table) → phisAt (x .0, absorbFrom c x T .block) ≡ phisAt x
+  into-phis x T = let w = into-at x T in ap₂ (λ (ks : List Value) (b : BlockLifting). ifPhis ks ((x .0, b) ∷ [])) (w .0) (w .1)
 
   first-phis : (x : CfgPoint × BlockLifting) (T : Table) (R : Table) → Used x → phiBlocks (keepIf (c (x .0)) (x .0, absorbFrom c x T .block) R) ≡ phisAt x ++ phiBlocks R
-  first-phis x T R used = keep-phis (x .0, absorbFrom c x T .block) R (λ n. used (λ e. n (fused-at x T .0 ∙ e))) ∙ ap (λ (l : Table). l ++ phiBlocks R) (fused-phis x T)
+  first-phis x T R used = keep-phis (x .0, absorbFrom c x T .block) R (λ n. used (λ e. n (into-at x T .0 ∙ e))) ∙ ap (λ (l : Table). l ++ phiBlocks R) (into-phis x T)
 
   rest-phis : (x : CfgPoint × BlockLifting) (T : Table) → All Used T → phiBlocks (keep c (absorbFrom c x T .rest)) ≡ phiBlocks T
   unfolding absorbFrom
   rest-phis x [] used = refl
-  rest-phis x (y ∷ T) used = by-glue (absorbsNext c x y) refl (rest-phis y T (used .1))
+  rest-phis x (y ∷ T) used = by-absorb (absorbsNext c x y) refl (rest-phis y T (used .1))
     where
-      by-glue : (g : Bool) → absorbsNext c x y ≡ g → phiBlocks (keep c (absorbFrom c y T .rest)) ≡ phiBlocks T → phiBlocks (keep c (absorbStep g x (y .0) (absorbFrom c y T) .rest)) ≡ phisAt y ++ phiBlocks T
-      by-glue true e ih = ih ∙ ap (λ (ks : List Value). ifPhis ks ((y .0, emptied (y .1)) ∷ []) ++ phiBlocks T) (sym (glued-keys x y e))
-      by-glue false e ih = first-phis y T (keep c (absorbFrom c y T .rest)) (used .0) ∙ ap (λ (l : Table). phisAt y ++ l) ih
+      by-absorb : (g : Bool) → absorbsNext c x y ≡ g → phiBlocks (keep c (absorbFrom c y T .rest)) ≡ phiBlocks T → phiBlocks (keep c (absorbStep g x (y .0) (absorbFrom c y T) .rest)) ≡ phisAt y ++ phiBlocks T
+      by-absorb true e ih = ih ∙ ap (λ (ks : List Value). ifPhis ks ((y .0, emptied (y .1)) ∷ []) ++ phiBlocks T) (sym (absorbing-keys x y e))
+      by-absorb false e ih = first-phis y T (keep c (absorbFrom c y T .rest)) (used .0) ∙ ap (λ (l : Table). phisAt y ++ l) ih
 
   all-phis : (T : Table) → All Used T → phiBlocks (keep c (absorbRuns c T)) ≡ phiBlocks T
   unfolding absorbRuns
@@ -167,7 +167,7 @@ module _ (F : Func) (ok : Shaped F) where
 
   -- the blocks with phis are all kept, and no other
   pub phis-kept : phiBlocks (kept (walkOf F)) ≡ phiBlocks (walkOf F)
-  phis-kept = ap phiBlocks (kept-fused T (walk-once F ok) (walk-near F ok)) ∙ all-phis (useCount T) T (chain-all (Step F) UsedAt step-used T none (walk-steps F ok))
+  phis-kept = ap phiBlocks (kept-into T (walk-once F ok) (walk-near F ok)) ∙ all-phis (useCount T) T (chain-all (Step F) UsedAt step-used T none (walk-steps F ok))
 
   pub phi-keys-kept : phiKeys (kept (walkOf F)) ≡ phiKeys (walkOf F)
   phi-keys-kept = sym (keys-phis K) ∙ ap phiKeys phis-kept ∙ keys-phis T

@@ -21,7 +21,7 @@ use Rattle.lifting.specs.Ids.{Name, eqName, idOf, label, names, newId, newValue
 use Rattle.lifting.specs.Answer.{isSet, setValues}
 use Rattle.general_laws.specs.Members.{In, NoDup, here, in-cases, in-left, in-map, in-member, in-split, map-in, not-member, there}
 use Rattle.lifting_runs.specs.Accepted.{Numbered}
-use Rattle.lifting_runs.specs.Ids.{number-low}
+use Rattle.lifting_runs.specs.Ids.{number-from}
 use Rattle.lifting_runs.specs.IdsOnce
 use Rattle.lifting_runs.specs.IdsOnce.{number-at}
 use Rattle.lifting_runs.specs.Shaped.{Shaped, depth, in-order, tree, walk-is, walk-once}
@@ -64,18 +64,18 @@ module _ (F : Func) (T K : Table) where
   new-set first pos v = by-case (member eqValue v (newValues F T K)) refl
     where
       by-case : (b : Bool) → member eqValue v (newValues F T K) ≡ b → b ≡ ltb 0 (numberIn first (value v) (names F T K))
-      by-case true e = sym (positive (numberIn first (value v) (names F T K)) (omega (arith, pos, number-low first (value v) (names F T K) (value-named v (in-member eqValue v (newValues F T K) e)))))
+      by-case true e = sym (positive (numberIn first (value v) (names F T K)) (omega (arith, pos, number-from first (value v) (names F T K) (value-named v (in-member eqValue v (newValues F T K) e)))))
       by-case false e = sym (ap (ltb 0) (number-none first (value v) (names F T K) (λ i. not-member eqValue v (newValues F T K) e (named-value v i))))
 
 -- No name stands twice, so the k-th name has the k-th id; this asks for no refusal after 7.
 module _ (F : Func) (ok : Shaped F) where
-  pub names-once : NoDup (names F (walkOf F) (kept (walkOf F)))
-  names-once = subst (λ (T : Table). NoDup (names F T (kept T))) (walk-is F ok)
+  pub shaped-names-once : NoDup (names F (walkOf F) (kept (walkOf F)))
+  shaped-names-once = subst (λ (T : Table). NoDup (names F T (kept T))) (walk-is F ok)
       (IdsOnce.names-once F (depth F ok) (tree F ok) (ok .targets .body-root) (ok .forest) (roots F) (in-order F ok .no-child) (rw (walk-is F ok) (walk-once F ok)))
 
   pub id-at : (first k : ℕ) → k < length (names F (walkOf F) (kept (walkOf F))) → newId F first (walkOf F) (kept (walkOf F)) (getD (names F (walkOf F) (kept (walkOf F))) k theFunction) ≡ first + k
   unfolding newId
-  id-at first k h = number-at (names F (walkOf F) (kept (walkOf F))) names-once first k theFunction h
+  id-at first k h = number-at (names F (walkOf F) (kept (walkOf F))) shaped-names-once first k theFunction h
 
 module _ (F : Func) (ok : Shaped F) (first : ℕ) (num : Numbered F first) where
   abbrev T : Table

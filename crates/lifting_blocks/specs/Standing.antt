@@ -26,8 +26,8 @@ use Rattle.lifting_runs.specs.Terms.{TermOk}
 use Rattle.lifting_runs.specs.Shaped.{Shaped, laid, terms, visited-out, walk-once}
 use Rattle.lifting_runs.specs.EndedKept.{case-ends, count-case, count-out, last, last-leads}
 use Rattle.lifting_blocks.specs.Flat.{Status, byCount, carry, absorbsHere, absorbsNext, absorbsTarget, gone, goes, noKeys, noPair, starts, status, statusAt, statusFrom}
-use Rattle.lifting_blocks.specs.FlatLaws.{glue-last, glue-next}
-use Rattle.lifting_blocks.specs.Chain.{chain-at}
+use Rattle.lifting_blocks.specs.FlatLaws.{absorb-last, absorb-next}
+use Rattle.lifting_blocks.specs.Chain.{chain-getD}
 use Rattle.lifting_blocks.specs.Steps.{Step, step-entry, step-exit, step-in, step-out, walk-steps}
 use Rattle.lifting_blocks.specs.Neighbours.{block-in}
 use Rattle.lifting_blocks.specs.Follow.{goesOn, walk-follows}
@@ -81,8 +81,8 @@ module _ (F : Func) (ok : Shaped F) where
   zero-gone (suc i) e = ap (λ (b : Bool). status (carry (statusAt c T i) (at i .0) b) (c (at (suc i) .0))) (by-case (decLt (suc i) (length T))) ∙ fresh-zero (statusAt c T i) (at i .0) (c (at (suc i) .0)) e
     where
       by-case : Dec (suc i < length T) → absorbsHere c T i ≡ false
-      by-case (yes h) = glue-next c T i h ∙ loose (soleTarget (at i .1 .term)) (at (suc i) .0) (c (at (suc i) .0)) (at (suc i) .1 .keys) e
-      by-case (no n) = glue-last c T i (omega arith)
+      by-case (yes h) = absorb-next c T i h ∙ loose (soleTarget (at i .1 .term)) (at (suc i) .0) (c (at (suc i) .0)) (at (suc i) .1 .keys) e
+      by-case (no n) = absorb-last c T i (omega arith)
 
   -- the block at a position is the one found at its point
   at-block : (i : ℕ) → i < length (walkOf F) → blockAt (walkOf F) (at i .0) ≡ at i .1
@@ -113,7 +113,7 @@ module _ (F : Func) (ok : Shaped F) where
             let below : suc k < length T = omega arith in
             let before : statusAt c T k ≡ gone = zero-gone k (ap c p ∙ count-out F ok l (last-exit F (regionOf F r .nodes) (ce .ends))) in
             let no-keys : at (suc k) .1 .keys ≡ [] = ap (λ (b : BlockLifting). b .keys) (sym (at-block (suc k) below) ∙ ap (blockAt T) here-too ∙ laid F ok .exit-at (ce .stands)) in
-            let joins : absorbsHere c T k ≡ true = glue-next c T k below
+            let joins : absorbsHere c T k ≡ true = absorb-next c T k below
             ∙ ap (λ (x : Terminator). absorbsTarget (soleTarget x) (at (suc k) .0) (c (at (suc k) .0)) (at (suc k) .1 .keys)) (t ∙ ap straight (sym here-too))
             ∙ fast (at (suc k) .0) (c (at (suc k) .0)) (at (suc k) .1 .keys) (ap c here-too ∙ count-case F ok r ce) no-keys in
             ap (statusAt c T) z ∙ ap (λ (b : Bool). status (carry (statusAt c T k) (at k .0) b) (c (at (suc k) .0))) joins ∙ off-true (statusAt c T k) (at k .0) (c (at (suc k) .0)) before
@@ -136,7 +136,7 @@ module _ (F : Func) (ok : Shaped F) where
 
   pub case-exit-gone : (n c : ℕ) {k : SelectionKind} {v : Value} {cs : List ℕ} {ds : List Decl} {u : ℕ} → nodeOf F n ≡ select k v cs ds u → In c cs → endsInExit F (regionOf F c .nodes) ≡ true
       → (i : ℕ) → i < length (walkOf F) → getD (walkOf F) i noPair .0 ≡ regionExit c → statusAt (useCount (walkOf F)) (walkOf F) i ≡ gone
-  case-exit-gone n c e j en i h q = case-gone c (case-ends F ok n e j en (exit-visited (at i) _ (chain-at (Step F) T none (walk-steps F ok) i h) c q .1)) i h q
+  case-exit-gone n c e j en i h q = case-gone c (case-ends F ok n e j en (exit-visited (at i) _ (chain-getD (Step F) T none (walk-steps F ok) i h) c q .1)) i h q
 
   pub stands-term : (i : ℕ) → i < length (walkOf F) → ¬ (statusAt (useCount (walkOf F)) (walkOf F) i ≡ gone) → TermOk (walkOf F) (getD (walkOf F) i noPair .1 .term)
   stands-term i h n = elim (all-in _ T (terms F ok) (at i) (in-getD T i noPair h)) [ inl lo ↦ absurd (n (ended-gone i h (case-ended F (at i .0) lo))) | inr f ↦ f ]

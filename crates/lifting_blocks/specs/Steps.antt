@@ -14,18 +14,18 @@ use Rattle.lifting_runs.specs.Places.{Suffix, VisitedAt, at-body, by-ctrl, in-c
 use Rattle.lifting_runs.specs.Visits.{kid-visited}
 use Rattle.lifting_runs.specs.Accepted.{Root, Targets}
 use Rattle.lifting_runs.specs.Order.{roots-visited}
-use Rattle.lifting_blocks.specs.Chain.{Chain, chain-append, first-append, firstOf}
+use Rattle.lifting_blocks.specs.Chain.{Chain, chain-append, first-append, firstInTable}
 use Rattle.lifting_blocks.specs.Beside.{Beside, InOrder, first, roots-beside}
 use Rattle.lifting_runs.specs.Shaped.{Shaped, walk-is}
 
-abbrev pub entryOf : Option ℕ → Option CfgPoint
-entryOf none = none
-entryOf (some r) = some (regionEntry r)
+abbrev pub entryPoint : Option ℕ → Option CfgPoint
+entryPoint none = none
+entryPoint (some r) = some (regionEntry r)
 
 module _ (F : Func) where
   -- after a root comes the next root
   abbrev pub Onto : ℕ → Option CfgPoint → Type 0
-  Onto r o = (s : Option ℕ) × Beside F r s × (o ≡ entryOf s)
+  Onto r o = (s : Option ℕ) × Beside F r s × (o ≡ entryPoint s)
 
   pub data Step : CfgPoint × BlockLifting → Option CfgPoint → Type 0 where
     step-entry : {r : ℕ} {p : Place} → VisitedAt F r p → Step (regionEntry r, entryBlock F r p) (some (nextPoint r (regionOf F r .nodes)))
@@ -34,15 +34,15 @@ module _ (F : Func) where
     step-exit : {r : ℕ} {p : Place} {o : Option CfgPoint} → VisitedAt F r p → (p ≡ top → Onto r o) → Step (regionExit r, exitBlock F r p) o
 
   -- a region that is visited at the top is no child, and in a node it is a child of that node
-  abbrev pub Placed : ℕ → Place → Type 0
-  Placed r top = Root F r
-  Placed r (inNode n) = In r (childrenOf (nodeOf F n))
+  abbrev pub PlacedAs : ℕ → Place → Type 0
+  PlacedAs r top = Root F r
+  PlacedAs r (inNode n) = In r (childrenOf (nodeOf F n))
 
-  pub placed : {r : ℕ} {p : Place} → Targets F → VisitedAt F r p → Placed r p
-  placed tg at-body = tg .body-root
-  placed tg (in-case {c} v sf e i) = subst (λ (d : Node). In c (childrenOf d)) (sym e) i
-  placed tg (in-loop {b} v sf e) = subst (λ (d : Node). In b (childrenOf d)) (sym e) here
-  placed tg (by-ctrl {r} {s} v e i) = tg .target-root r s e i
+  pub placed-as : {r : ℕ} {p : Place} → Targets F → VisitedAt F r p → PlacedAs r p
+  placed-as tg at-body = tg .body-root
+  placed-as tg (in-case {c} v sf e i) = subst (λ (d : Node). In c (childrenOf d)) (sym e) i
+  placed-as tg (in-loop {b} v sf e) = subst (λ (d : Node). In b (childrenOf d)) (sym e) here
+  placed-as tg (by-ctrl {r} {s} v e i) = tg .target-root r s e i
 
   -- w walks a region at its place
   module _ (w : ℕ → Place → Table) (ih : (c : ℕ) (q : Place) (o : Option CfgPoint) → VisitedAt F c q → (q ≡ top → Onto c o) → Chain Step (w c q) o) where
@@ -57,11 +57,11 @@ module _ (F : Func) where
     steps-node {r} {n} {p} {ns} v sf =
         let last : Table = (nodeExit n, outBlock F (nodeOf F n) n (nextPoint r ns)) ∷ [] in
         let o : Option CfgPoint = some (nextPoint r ns) in (
-          step-in v sf (λ e. ap (λ (cs : List ℕ). firstOf (walkKids F w n cs ++ last) o) e),
+          step-in v sf (λ e. ap (λ (cs : List ℕ). firstInTable (walkKids F w n cs ++ last) o) e),
           chain-append Step (walkKids F w n (childrenOf (nodeOf F n))) last o (steps-kids v sf (childrenOf (nodeOf F n)) (λ c i. i) (some (nodeExit n))) (step-out v sf, tt),
         )
 
-    first-nodes : (r : ℕ) (ns : List ℕ) → firstOf (walkNodes F w r ns) (some (regionExit r)) ≡ some (nextPoint r ns)
+    first-nodes : (r : ℕ) (ns : List ℕ) → firstInTable (walkNodes F w r ns) (some (regionExit r)) ≡ some (nextPoint r ns)
     first-nodes r [] = refl
     first-nodes r (n ∷ ns) = refl
 
@@ -81,7 +81,7 @@ module _ (F : Func) where
         chain-append Step (walkNodes F w r ns) last o (steps-nodes w ih v ns whole) (step-exit v a, tt),
       )
 
-  first-roots : (k : ℕ) (l : List ℕ) → firstOf (walkRoots F (suc k) l) none ≡ entryOf (first l)
+  first-roots : (k : ℕ) (l : List ℕ) → firstInTable (walkRoots F (suc k) l) none ≡ entryPoint (first l)
   first-roots k [] = refl
   first-roots k (r ∷ l) = refl
 

@@ -9,7 +9,7 @@ use Rattle.general_laws.specs.Lists.{choose, choose-no, choose-yes, gather}
 use Rattle.lifting.specs.Ast.{Func}
 use Rattle.lifting.specs.Points.{BlockLifting, CfgPoint, Table, eqPoint, points}
 use Rattle.lifting.specs.Walk.{walkOf}
-use Rattle.lifting.specs.Absorb.{countIn, firstUse, labels, one, useCount, uses}
+use Rattle.lifting.specs.Absorb.{countIn, firstUse, labels, countOne, useCount, uses}
 use Rattle.general_laws.specs.Members.{In, NoDup, gather-in, here, in-cases, in-nil, in-split, there}
 use Rattle.lifting_runs.specs.Shaped.{Shaped, walk-first, walk-once}
 use Rattle.lifting_blocks.specs.Uses.{labels-visited}
@@ -85,7 +85,7 @@ module _ {K : Type 0} (eq : (x y : K) → Dec (x ≡ y)) (y : K) (n : ℕ) where
       by-case (yes e) ih = omega (arith, total-absent ks (subst (λ (z : K). ¬ (In z ks)) e (u .0)))
       by-case (no m) ih = omega arith
 
-total-in : (q : CfgPoint) (l : List CfgPoint) → NoDup l → In q l → total (λ p. one p q) l ≡ 1
+total-in : (q : CfgPoint) (l : List CfgPoint) → NoDup l → In q l → total (λ p. countOne p q) l ≡ 1
 total-in q l n (here {l = k}) = omega (arith, choose-yes {A = ℕ} (eqPoint q q) 1 0 refl, total-absent eqPoint q 1 k (n .0))
 total-in q l n (there {y = p} {l = k} i) =
     omega (arith, choose-no {A = ℕ} (eqPoint p q) 1 0 (λ e. n .0 (subst (λ (r : CfgPoint). In r k) (sym e) i)), total-in q k (n .1) i)
@@ -94,7 +94,7 @@ total-in q l n (there {y = p} {l = k} i) =
 total-counts : (l ps : List CfgPoint) → NoDup ps → ((q : CfgPoint) → In q l → In q ps) → total (λ p. countIn p l) ps ≡ length l
 total-counts [] ps n h = total-none ps
 total-counts (q ∷ l) ps n h =
-    omega (arith, total-add (λ p. one p q) (λ p. countIn p l) ps, total-in q ps n (h q here), total-counts l ps n (λ r i. h r (there i)))
+    omega (arith, total-add (λ p. countOne p q) (λ p. countIn p l) ps, total-in q ps n (h q here), total-counts l ps n (λ r i. h r (there i)))
 
 module _ (F : Func) (ok : Shaped F) where
   all-visited : (q : CfgPoint) → In q (usesOf (walkOf F)) → In q (points (walkOf F))

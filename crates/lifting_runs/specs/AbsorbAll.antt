@@ -15,7 +15,7 @@ use Rattle.lifting.specs.Machine.{Alike, go}
 use Rattle.lifting.specs.World.{Mem, World, pick, reading, reads}
 use Rattle.lifting.specs.RegionRun.{atFirst, execute, sets}
 use Rattle.general_laws.specs.Members.{In}
-use Rattle.lifting_runs.specs.Each.{after-all, taken}
+use Rattle.lifting_runs.specs.Each.{after-all, absorbedBy}
 use Rattle.lifting_runs.specs.Simulation.{Macro, MeetOut, alike-of, alike-refl, alike-trans, at-once, out-go, out-halt}
 use Rattle.lifting_runs.specs.PointRun.{PointState, doOps, edge, jump, leavePoint, pointLog, pointStart, pointStep, pointWay}
 use Rattle.lifting_runs.specs.Structure.{meet-reading}
@@ -78,7 +78,7 @@ pub record Kept (F : Func) {Val : Type 0} (W : World Val) (T : Table) (s : Absor
       (pointStart F W (blockAt T)) (pointStart F W (blockAt (s .table)))
 
 module _ (F : Func) {Val : Type 0} (W : World Val) (T : Table) where
-  one-more : (b t : CfgPoint) (s : Absorbing) → Kept F W T s → soleTarget (blockAt (s .table) b .term) ≡ some t → s .counts t ≡ 1 → blockAt (s .table) t .keys ≡ [] → Kept F W T (taken b t s)
+  one-more : (b t : CfgPoint) (s : Absorbing) → Kept F W T s → soleTarget (blockAt (s .table) b .term) ≡ some t → s .counts t ≡ 1 → blockAt (s .table) t .keys ≡ [] → Kept F W T (absorbedBy b t s)
   one-more b t s k e u ks =
       let U = s .table in
       let c = blockAt U t in

@@ -8,7 +8,7 @@ use Rattle.general_laws.specs.Lists.{choose, choose-no, choose-yes, find}
 use Rattle.lifting.specs.Ast.{ControlInstKind, Value, branch, exitInvocation, return, selectBranch, unreachable}
 use Rattle.lifting.specs.Parts.{targets}
 use Rattle.lifting.specs.Points.{BlockLifting, CfgPoint, Merge, Table, Terminator, blockAt, blockOr, eqPoint, loopMerge, noMerge, regionEntry, selectionMerge, straight}
-use Rattle.lifting.specs.Absorb.{countIn, emptied, firstUse, absorbInto, ifBranch, ifEmpty, ifNoMerge, ifZero, joined, labels, mergeLabels, one, refit, single, soleTarget, useCount, uses}
+use Rattle.lifting.specs.Absorb.{countIn, emptied, firstUse, absorbInto, ifBranch, ifEmpty, ifNoMerge, ifZero, joined, labels, mergeLabels, countOne, refit, theOnly, soleTarget, useCount, uses}
 use Rattle.general_laws.specs.Members.{In, here, there}
 use Rattle.lifting_runs.specs.AbsorbRun.{Absorbed}
 
@@ -20,7 +20,7 @@ pub sole-straight : (e : Terminator) (q : CfgPoint) → soleTarget e ≡ some q 
 sole-straight e q h = go (e .attrs) (e .kind) (e .ins) (e .targets) (e .vals) (e .merge) h
   where
     go : (a : ℕ) (k : ControlInstKind) (is : List Value) (ts : List CfgPoint) (vs : List (CfgPoint × List Value)) (m : Merge)
-        → ifZero a (ifBranch k (ifEmpty is (ifEmpty vs (ifNoMerge m (single ts))))) ≡ some q
+        → ifZero a (ifBranch k (ifEmpty is (ifEmpty vs (ifNoMerge m (theOnly ts))))) ≡ some q
         → _≡_ {A = Terminator} (record { attrs = a; kind = k; ins = is; targets = ts; vals = vs; merge = m }) (straight q)
     go (suc a) k is ts vs m h = absurd (none-some h)
     go zero unreachable is ts vs m h = absurd (none-some h)
@@ -51,22 +51,22 @@ pub in-labels : (q : CfgPoint) (e : Terminator) → In q (e .targets) → 1 ≤ 
 in-labels q e h = in-count q (labels e) (in-append q (mergeLabels (e .merge)) (e .targets) h)
 
 -- the uses of q by the block at p
-abbrev pub usesAt : Table → CfgPoint → CfgPoint → ℕ
-usesAt T p q = countIn q (labels (blockAt T p .term))
+abbrev pub usesFrom : Table → CfgPoint → CfgPoint → ℕ
+usesFrom T p q = countIn q (labels (blockAt T p .term))
 
-pub at-uses : (T : Table) (p q : CfgPoint) → usesAt T p q ≤ uses T q
+pub at-uses : (T : Table) (p q : CfgPoint) → usesFrom T p q ≤ uses T q
 at-uses [] p q = omega arith
 at-uses (x ∷ T) p q = by-case (eqPoint p (x .0)) (at-uses T p q)
   where
-    by-case : (d : Dec (p ≡ x .0)) → usesAt T p q ≤ uses T q → countIn q (labels (blockOr (choose d (some (x .1)) (find eqPoint p T)) .term)) ≤ countIn q (labels (x .1 .term)) + uses T q
+    by-case : (d : Dec (p ≡ x .0)) → usesFrom T p q ≤ uses T q → countIn q (labels (blockOr (choose d (some (x .1)) (find eqPoint p T)) .term)) ≤ countIn q (labels (x .1 .term)) + uses T q
     by-case (yes e) h = omega arith
     by-case (no n) h = omega arith
 
-pub two-uses : (T : Table) (p r q : CfgPoint) → ¬ (p ≡ r) → usesAt T p q + usesAt T r q ≤ uses T q
+pub two-uses : (T : Table) (p r q : CfgPoint) → ¬ (p ≡ r) → usesFrom T p q + usesFrom T r q ≤ uses T q
 two-uses [] p r q n = omega arith
 two-uses (x ∷ T) p r q n = by-case (eqPoint p (x .0)) (eqPoint r (x .0)) (at-uses T p q) (at-uses T r q) (two-uses T p r q n)
   where
-    by-case : (d : Dec (p ≡ x .0)) (d-right : Dec (r ≡ x .0)) → usesAt T p q ≤ uses T q → usesAt T r q ≤ uses T q → usesAt T p q + usesAt T r q ≤ uses T q
+    by-case : (d : Dec (p ≡ x .0)) (d-right : Dec (r ≡ x .0)) → usesFrom T p q ≤ uses T q → usesFrom T r q ≤ uses T q → usesFrom T p q + usesFrom T r q ≤ uses T q
         → countIn q (labels (blockOr (choose d (some (x .1)) (find eqPoint p T)) .term)) + countIn q (labels (blockOr (choose d-right (some (x .1)) (find eqPoint r T)) .term))
         ≤ countIn q (labels (x .1 .term)) + uses T q
     by-case (yes e) (yes e-right) h h-right h-last = absurd (n (e ∙ sym e-right))
@@ -79,9 +79,9 @@ abbrev pub onSome : (BlockLifting → BlockLifting) → Option BlockLifting → 
 onSome f none = none
 onSome f (some d) = some (f d)
 
-pub find-fuse : (b t : CfgPoint) (c : BlockLifting) (T : Table) (q : CfgPoint) → find eqPoint q (absorbInto b t c T) ≡ onSome (refit b t c q) (find eqPoint q T)
-find-fuse b t c [] q = refl
-find-fuse b t c (x ∷ T) q = by-case (eqPoint q (x .0)) (find-fuse b t c T q)
+pub find-absorb : (b t : CfgPoint) (c : BlockLifting) (T : Table) (q : CfgPoint) → find eqPoint q (absorbInto b t c T) ≡ onSome (refit b t c q) (find eqPoint q T)
+find-absorb b t c [] q = refl
+find-absorb b t c (x ∷ T) q = by-case (eqPoint q (x .0)) (find-absorb b t c T q)
   where
     by-case : (d : Dec (q ≡ x .0)) → find eqPoint q (absorbInto b t c T) ≡ onSome (refit b t c q) (find eqPoint q T)
         → choose d (some (refit b t c (x .0) (x .1))) (find eqPoint q (absorbInto b t c T)) ≡ onSome (refit b t c q) (choose d (some (x .1)) (find eqPoint q T))
@@ -106,7 +106,7 @@ refit-keys b t c p d = by-case (eqPoint p t) (eqPoint p b)
     by-case (no n) (no m) = (refl, refl)
 
 pub block-other : (b t : CfgPoint) (c : BlockLifting) (T : Table) (q : CfgPoint) → ¬ (q ≡ t) → ¬ (q ≡ b) → blockAt (absorbInto b t c T) q ≡ blockAt T q
-block-other b t c T q nt nb = ap blockOr (find-fuse b t c T q) ∙ by-case (find eqPoint q T)
+block-other b t c T q nt nb = ap blockOr (find-absorb b t c T q) ∙ by-case (find eqPoint q T)
   where
     by-case : (o : Option BlockLifting) → blockOr (onSome (refit b t c q) o) ≡ blockOr o
     by-case none = refl
@@ -115,7 +115,7 @@ block-other b t c T q nt nb = ap blockOr (find-fuse b t c T q) ∙ by-case (find
 pub block-keys : (b t : CfgPoint) (c : BlockLifting) (T : Table) (q : CfgPoint)
     → (blockAt (absorbInto b t c T) q .keys ≡ blockAt T q .keys) × (blockAt (absorbInto b t c T) q .defaults ≡ blockAt T q .defaults)
 block-keys b t c T q = let r = by-case (find eqPoint q T) in
-    (ap (λ (o : Option BlockLifting). blockOr o .keys) (find-fuse b t c T q) ∙ r .0, ap (λ (o : Option BlockLifting). blockOr o .defaults) (find-fuse b t c T q) ∙ r .1)
+    (ap (λ (o : Option BlockLifting). blockOr o .keys) (find-absorb b t c T q) ∙ r .0, ap (λ (o : Option BlockLifting). blockOr o .defaults) (find-absorb b t c T q) ∙ r .1)
   where
     by-case : (o : Option BlockLifting) → (blockOr (onSome (refit b t c q) o) .keys ≡ blockOr o .keys) × (blockOr (onSome (refit b t c q) o) .defaults ≡ blockOr o .defaults)
     by-case none = (refl, refl)
@@ -123,11 +123,11 @@ block-keys b t c T q = let r = by-case (find eqPoint q T) in
 
 -- a block that leads somewhere is in the table
 found : (o : Option BlockLifting) (t : CfgPoint) → blockOr o .term ≡ straight t → (d : BlockLifting) × (o ≡ some d)
-found none t e = absurd (none-some (sym (ap (λ (x : Terminator). single (x .targets)) (sym e))))
+found none t e = absurd (none-some (sym (ap (λ (x : Terminator). theOnly (x .targets)) (sym e))))
 found (some d) t e = (d, refl)
 
 block-b : (b t : CfgPoint) (c : BlockLifting) (T : Table) → blockAt T b .term ≡ straight t → ¬ (b ≡ t) → blockAt (absorbInto b t c T) b ≡ joined (blockAt T b) c
-block-b b t c T e n = by-case (find eqPoint b T) (found (find eqPoint b T) t e) (find-fuse b t c T b)
+block-b b t c T e n = by-case (find eqPoint b T) (found (find eqPoint b T) t e) (find-absorb b t c T b)
   where
     by-case : (o : Option BlockLifting) → (d : BlockLifting) × (o ≡ some d) → find eqPoint b (absorbInto b t c T) ≡ onSome (refit b t c b) o → blockAt (absorbInto b t c T) b ≡ joined (blockOr o) c
     by-case none w f = absurd (none-some (w .1))
@@ -139,10 +139,10 @@ pub absorbed-of : (T : Table) (b t : CfgPoint) → firstUse T (regionEntry 0) �
 unfolding useCount
 absorbed-of T b t st e u ks ds = record { leads = e; no-keys = ks; no-defaults = ds; only = only-b; not-first = off; at-b = block-b b t (blockAt T t) T e; elsewhere = block-other b t (blockAt T t) T }
   where
-    own : usesAt T b t ≡ 1
+    own : usesFrom T b t ≡ 1
     own = ap (λ (x : Terminator). countIn t (labels x)) e ∙ add0 (choose-yes {A = ℕ} (eqPoint t t) 1 0 refl)
       where
-        add0 : one t t ≡ 1 → one t t + 0 ≡ 1
+        add0 : countOne t t ≡ 1 → countOne t t + 0 ≡ 1
         add0 h = omega arith
 
     only-b : (q p : CfgPoint) → ¬ (q ≡ b) → In p (blockAt T q .term .targets) → ¬ (p ≡ t)
@@ -157,7 +157,7 @@ Unique [] = Unit {0}
 Unique (x ∷ T) = (find eqPoint (x .0) T ≡ none) × Unique T
 
 -- a point that is not there uses nothing
-absent : (T : Table) (p q : CfgPoint) → find eqPoint p T ≡ none → usesAt T p q ≡ 0
+absent : (T : Table) (p q : CfgPoint) → find eqPoint p T ≡ none → usesFrom T p q ≡ 0
 absent T p q h = ap (λ (o : Option BlockLifting). countIn q (labels (blockOr o .term))) h
 
 gain : Option BlockLifting → ℕ → ℕ
@@ -165,11 +165,11 @@ gain none k = 0
 gain (some d) k = k
 
 -- what the uses become
-fuse-uses : (b t : CfgPoint) (c : BlockLifting) (q : CfgPoint) → ¬ (b ≡ t) → (T : Table) → Unique T
-    → uses (absorbInto b t c T) q + (usesAt T b q + usesAt T t q) ≡ uses T q + gain (find eqPoint b T) (countIn q (labels (c .term)))
+absorb-uses : (b t : CfgPoint) (c : BlockLifting) (q : CfgPoint) → ¬ (b ≡ t) → (T : Table) → Unique T
+    → uses (absorbInto b t c T) q + (usesFrom T b q + usesFrom T t q) ≡ uses T q + gain (find eqPoint b T) (countIn q (labels (c .term)))
 unfolding gain
-fuse-uses b t c q n [] u = refl
-fuse-uses b t c q n (x ∷ T) u = by-case (eqPoint b (x .0)) (eqPoint t (x .0)) (fuse-uses b t c q n T (u .1))
+absorb-uses b t c q n [] u = refl
+absorb-uses b t c q n (x ∷ T) u = by-case (eqPoint b (x .0)) (eqPoint t (x .0)) (absorb-uses b t c q n T (u .1))
   where
     K : ℕ
     K = countIn q (labels (c .term))
@@ -178,7 +178,7 @@ fuse-uses b t c q n (x ∷ T) u = by-case (eqPoint b (x .0)) (eqPoint t (x .0)) 
     X = countIn q (labels (x .1 .term))
 
     by-case : (d : Dec (b ≡ x .0)) (d-right : Dec (t ≡ x .0))
-        → uses (absorbInto b t c T) q + (usesAt T b q + usesAt T t q) ≡ uses T q + gain (find eqPoint b T) K
+        → uses (absorbInto b t c T) q + (usesFrom T b q + usesFrom T t q) ≡ uses T q + gain (find eqPoint b T) K
         → countIn q (labels (refit b t c (x .0) (x .1) .term)) + uses (absorbInto b t c T) q
         + (countIn q (labels (blockOr (choose d (some (x .1)) (find eqPoint b T)) .term)) + countIn q (labels (blockOr (choose d-right (some (x .1)) (find eqPoint t T)) .term)))
         ≡ X + uses T q + gain (choose d (some (x .1)) (find eqPoint b T)) K
@@ -202,11 +202,11 @@ fuse-uses b t c q n (x ∷ T) u = by-case (eqPoint b (x .0)) (eqPoint t (x .0)) 
         omega arith
 
 -- a block that would absorb itself
-fuse-self : (t : CfgPoint) (c : BlockLifting) (q : CfgPoint) → (T : Table) → Unique T → uses (absorbInto t t c T) q + usesAt T t q ≡ uses T q
-fuse-self t c q [] u = refl
-fuse-self t c q (x ∷ T) u = by-case (eqPoint t (x .0)) (fuse-self t c q T (u .1))
+absorb-self : (t : CfgPoint) (c : BlockLifting) (q : CfgPoint) → (T : Table) → Unique T → uses (absorbInto t t c T) q + usesFrom T t q ≡ uses T q
+absorb-self t c q [] u = refl
+absorb-self t c q (x ∷ T) u = by-case (eqPoint t (x .0)) (absorb-self t c q T (u .1))
   where
-    by-case : (d : Dec (t ≡ x .0)) → uses (absorbInto t t c T) q + usesAt T t q ≡ uses T q
+    by-case : (d : Dec (t ≡ x .0)) → uses (absorbInto t t c T) q + usesFrom T t q ≡ uses T q
         → countIn q (labels (refit t t c (x .0) (x .1) .term)) + uses (absorbInto t t c T) q + countIn q (labels (blockOr (choose d (some (x .1)) (find eqPoint t T)) .term))
         ≡ countIn q (labels (x .1 .term)) + uses T q
     by-case (yes e) h =
@@ -220,8 +220,8 @@ fuse-self t c q (x ∷ T) u = by-case (eqPoint t (x .0)) (fuse-self t c q T (u .
         = ap (λ (d : BlockLifting). countIn q (labels (d .term))) (refit-other t t c (x .0) (x .1) (λ z. n (sym z)) (λ z. n (sym z))) in
         omega arith
 
-lead-uses : (T : Table) (b t q : CfgPoint) → blockAt T b .term ≡ straight t → usesAt T b q ≡ one q t
-lead-uses T b t q e = ap (λ (x : Terminator). countIn q (labels x)) e ∙ plus0 (one q t)
+lead-uses : (T : Table) (b t q : CfgPoint) → blockAt T b .term ≡ straight t → usesFrom T b q ≡ countOne q t
+lead-uses T b t q e = ap (λ (x : Terminator). countIn q (labels x)) e ∙ plus0 (countOne q t)
   where
     plus0 : (n : ℕ) → n + 0 ≡ n
     plus0 n = omega arith
@@ -231,18 +231,18 @@ unfolding gain
 gain-of T b t k e = ap (λ (o : Option BlockLifting). gain o k) (found (find eqPoint b T) t e .1)
 
 -- an absorption takes away the one use of its target and no other
-pub uses-after : (T : Table) (b t q : CfgPoint) → Unique T → blockAt T b .term ≡ straight t → uses T q ≡ one q t + uses (absorbInto b t (blockAt T t) T) q
+pub uses-after : (T : Table) (b t q : CfgPoint) → Unique T → blockAt T b .term ≡ straight t → uses T q ≡ countOne q t + uses (absorbInto b t (blockAt T t) T) q
 uses-after T b t q u e = by-case (eqPoint b t)
   where
     c : BlockLifting
     c = blockAt T t
 
-    by-case : Dec (b ≡ t) → uses T q ≡ one q t + uses (absorbInto b t c T) q
+    by-case : Dec (b ≡ t) → uses T q ≡ countOne q t + uses (absorbInto b t c T) q
     by-case (yes x) =
-        let s : uses (absorbInto b t c T) q + usesAt T t q ≡ uses T q = subst (λ (p : CfgPoint). uses (absorbInto p t c T) q + usesAt T t q ≡ uses T q) (sym x) (fuse-self t c q T u) in
-        let l : usesAt T t q ≡ one q t = subst (λ (p : CfgPoint). usesAt T p q ≡ one q t) x (lead-uses T b t q e) in
+        let s : uses (absorbInto b t c T) q + usesFrom T t q ≡ uses T q = subst (λ (p : CfgPoint). uses (absorbInto p t c T) q + usesFrom T t q ≡ uses T q) (sym x) (absorb-self t c q T u) in
+        let l : usesFrom T t q ≡ countOne q t = subst (λ (p : CfgPoint). usesFrom T p q ≡ countOne q t) x (lead-uses T b t q e) in
         omega arith
-    by-case (no n) = omega (arith, fuse-uses b t c q n T u, lead-uses T b t q e, gain-of T b t (countIn q (labels (c .term))) e)
+    by-case (no n) = omega (arith, absorb-uses b t c q n T u, lead-uses T b t q e, gain-of T b t (countIn q (labels (c .term))) e)
 
 pub first-after : (b t : CfgPoint) (c : BlockLifting) (T : Table) (q : CfgPoint) → firstUse (absorbInto b t c T) q ≡ firstUse T q
 first-after b t c [] q = refl
@@ -250,7 +250,7 @@ first-after b t c (x ∷ T) q = refl
 
 pub unique-after : (b t : CfgPoint) (c : BlockLifting) (T : Table) → Unique T → Unique (absorbInto b t c T)
 unique-after b t c [] u = tt
-unique-after b t c (x ∷ T) u = (find-fuse b t c T (x .0) ∙ ap (onSome (refit b t c (x .0))) (u .0), unique-after b t c T (u .1))
+unique-after b t c (x ∷ T) u = (find-absorb b t c T (x .0) ∙ ap (onSome (refit b t c (x .0))) (u .0), unique-after b t c T (u .1))
 
 pub counts-after : (T : Table) (b t q : CfgPoint) → Unique T → blockAt T b .term ≡ straight t → useCount T t ≡ 1
     → choose (eqPoint q t) 0 (useCount T q) ≡ useCount (absorbInto b t (blockAt T t) T) q
@@ -262,9 +262,9 @@ counts-after T b t q u e k = by-case (eqPoint q t)
 
     by-case : (d : Dec (q ≡ t)) → choose d 0 (useCount T q) ≡ useCount (absorbInto b t c T) q
     by-case (yes x) =
-        let o : one q t ≡ 1 = choose-yes {A = ℕ} (eqPoint q t) 1 0 x in
+        let o : countOne q t ≡ 1 = choose-yes {A = ℕ} (eqPoint q t) 1 0 x in
         let s : useCount T q ≡ 1 = subst (λ (p : CfgPoint). useCount T p ≡ 1) (sym x) k in
         omega (arith, uses-after T b t q u e, first-after b t c T q)
     by-case (no n) =
-        let o : one q t ≡ 0 = choose-no {A = ℕ} (eqPoint q t) 1 0 n in
+        let o : countOne q t ≡ 0 = choose-no {A = ℕ} (eqPoint q t) 1 0 n in
         omega (arith, uses-after T b t q u e, first-after b t c T q)

@@ -33,28 +33,28 @@ pub record Absorbed (B Joined : CfgPoint → BlockLifting) (b t : CfgPoint) : Ty
   pub elsewhere : (q : CfgPoint) → ¬ (q ≡ t) → ¬ (q ≡ b) → Joined q ≡ B q
 
 module _ (F : Func) {Val : Type 0} (W : World Val) (B Joined : CfgPoint → BlockLifting) (b t : CfgPoint) (ab : Absorbed B Joined b t) where
-  data Fused : PointState Val → PointState Val → Type 0 where
-    alone : (q : CfgPoint) (is : List ℕ) (m : Mem Val Value) → ¬ (q ≡ t) → ¬ (q ≡ b) → Fused (record { at = q; ops = is; mem = m }) (record { at = q; ops = is; mem = m })
-    head : (is : List ℕ) (m : Mem Val Value) → ¬ (b ≡ t) → Fused (record { at = b; ops = is; mem = m }) (record { at = b; ops = is ++ B t .ops; mem = m })
-    inner : (is : List ℕ) (m : Mem Val Value) → ¬ (b ≡ t) → Fused (record { at = t; ops = is; mem = m }) (record { at = b; ops = is; mem = m })
+  data AbsorbedInto : PointState Val → PointState Val → Type 0 where
+    alone : (q : CfgPoint) (is : List ℕ) (m : Mem Val Value) → ¬ (q ≡ t) → ¬ (q ≡ b) → AbsorbedInto (record { at = q; ops = is; mem = m }) (record { at = q; ops = is; mem = m })
+    head : (is : List ℕ) (m : Mem Val Value) → ¬ (b ≡ t) → AbsorbedInto (record { at = b; ops = is; mem = m }) (record { at = b; ops = is ++ B t .ops; mem = m })
+    inner : (is : List ℕ) (m : Mem Val Value) → ¬ (b ≡ t) → AbsorbedInto (record { at = t; ops = is; mem = m }) (record { at = b; ops = is; mem = m })
 
   abbrev jumpTo : BlockLifting → Terminator → CfgPoint → Mem Val Value → Out (PointState Val) (End Val)
   jumpTo x e q m = reading (reads (m .env) (valsOr (find eqPoint q (e .vals)) (x .defaults))) (λ ws. go (record { at = q; ops = x .ops; mem = sets (x .keys) ws m }))
 
-  jump-b : (e : Terminator) (m : Mem Val Value) → ¬ (b ≡ t) → MeetOut Fused (jump F W B e b m) (jump F W Joined e b m)
-  jump-b e m n = subst (λ (x : BlockLifting). MeetOut Fused (jump F W B e b m) (jumpTo x e b m)) (sym (ab .at-b n))
-      (meet-reading Fused (reads (m .env) (edge F W B e b)) _ _ (λ ws. out-go (head (B b .ops) (sets (B b .keys) ws m) n)))
+  jump-b : (e : Terminator) (m : Mem Val Value) → ¬ (b ≡ t) → MeetOut AbsorbedInto (jump F W B e b m) (jump F W Joined e b m)
+  jump-b e m n = subst (λ (x : BlockLifting). MeetOut AbsorbedInto (jump F W B e b m) (jumpTo x e b m)) (sym (ab .at-b n))
+      (meet-reading AbsorbedInto (reads (m .env) (edge F W B e b)) _ _ (λ ws. out-go (head (B b .ops) (sets (B b .keys) ws m) n)))
 
-  jump-q : (e : Terminator) (q : CfgPoint) (m : Mem Val Value) → ¬ (q ≡ t) → MeetOut Fused (jump F W B e q m) (jump F W Joined e q m)
+  jump-q : (e : Terminator) (q : CfgPoint) (m : Mem Val Value) → ¬ (q ≡ t) → MeetOut AbsorbedInto (jump F W B e q m) (jump F W Joined e q m)
   jump-q e q m n = by-case (eqPoint q b)
     where
-      by-case : Dec (q ≡ b) → MeetOut Fused (jump F W B e q m) (jump F W Joined e q m)
-      by-case (yes p) = subst (λ (x : CfgPoint). MeetOut Fused (jump F W B e x m) (jump F W Joined e x m)) (sym p) (jump-b e m (λ bt. n (p ∙ bt)))
-      by-case (no np) = subst (λ (x : BlockLifting). MeetOut Fused (jump F W B e q m) (jumpTo x e q m)) (sym (ab .elsewhere q n np))
-          (meet-reading Fused (reads (m .env) (edge F W B e q)) _ _ (λ ws. out-go (alone q (B q .ops) (sets (B q .keys) ws m) n np)))
+      by-case : Dec (q ≡ b) → MeetOut AbsorbedInto (jump F W B e q m) (jump F W Joined e q m)
+      by-case (yes p) = subst (λ (x : CfgPoint). MeetOut AbsorbedInto (jump F W B e x m) (jump F W Joined e x m)) (sym p) (jump-b e m (λ bt. n (p ∙ bt)))
+      by-case (no np) = subst (λ (x : BlockLifting). MeetOut AbsorbedInto (jump F W B e q m) (jumpTo x e q m)) (sym (ab .elsewhere q n np))
+          (meet-reading AbsorbedInto (reads (m .env) (edge F W B e q)) _ _ (λ ws. out-go (alone q (B q .ops) (sets (B q .keys) ws m) n np)))
 
   jump-nth : (e : Terminator) (i : ℕ) (m : Mem Val Value) → ((p : CfgPoint) → In p (e .targets) → ¬ (p ≡ t))
-      → MeetOut Fused (jump F W B e (getD (e .targets) i (regionEntry 0)) m) (jump F W Joined e (getD (e .targets) i (regionEntry 0)) m)
+      → MeetOut AbsorbedInto (jump F W B e (getD (e .targets) i (regionEntry 0)) m) (jump F W Joined e (getD (e .targets) i (regionEntry 0)) m)
   jump-nth e i m h = jump-q e (getD (e .targets) i (regionEntry 0)) m (by-case (in-or-default (e .targets) i (regionEntry 0)))
     where
       by-case : In (getD (e .targets) i (regionEntry 0)) (e .targets) ⊎ (getD (e .targets) i (regionEntry 0) ≡ regionEntry 0) → ¬ (getD (e .targets) i (regionEntry 0) ≡ t)
@@ -62,18 +62,18 @@ module _ (F : Func) {Val : Type 0} (W : World Val) (B Joined : CfgPoint → Bloc
       by-case (inr x) = λ y. ab .not-first (sym x ∙ y)
 
   out-by : (k : ControlInstKind) (e : Terminator) (vs : List Val) (m : Mem Val Value) → ((p : CfgPoint) → In p (e .targets) → ¬ (p ≡ t))
-      → MeetOut Fused (pointWay F W B k e vs m) (pointWay F W Joined k e vs m)
+      → MeetOut AbsorbedInto (pointWay F W B k e vs m) (pointWay F W Joined k e vs m)
   out-by unreachable e vs m h = out-halt
   out-by return e vs m h = out-halt
   out-by branch e vs m h = jump-nth e 0 m h
   out-by (selectBranch k) e vs m h = jump-nth e (pick W k vs (length (e .targets))) m h
   out-by (exitInvocation i) e vs m h = out-halt
 
-  leaving : (e : Terminator) (m : Mem Val Value) → ((p : CfgPoint) → In p (e .targets) → ¬ (p ≡ t)) → MeetOut Fused (leavePoint F W B e m) (leavePoint F W Joined e m)
-  leaving e m h = meet-reading Fused (reads (m .env) (e .ins)) _ _ (λ vs. out-by (e .kind) e vs m h)
+  leaving : (e : Terminator) (m : Mem Val Value) → ((p : CfgPoint) → In p (e .targets) → ¬ (p ≡ t)) → MeetOut AbsorbedInto (leavePoint F W B e m) (leavePoint F W Joined e m)
+  leaving e m h = meet-reading AbsorbedInto (reads (m .env) (e .ins)) _ _ (λ vs. out-by (e .kind) e vs m h)
 
   abbrev Big : PointState Val → PointState Val → Type 0
-  Big = Macro (pointStep F W B) (pointLog F W B) (pointStep F W Joined) (pointLog F W Joined) Fused
+  Big = Macro (pointStep F W B) (pointLog F W B) (pointStep F W Joined) (pointLog F W Joined) AbsorbedInto
 
   hop : (m : Mem Val Value) → pointStep F W B (record { at = b; ops = []; mem = m }) ≡ go (record { at = t; ops = B t .ops; mem = m })
   hop m = ap (λ (e : Terminator). leavePoint F W B e m) (ab .leads)
@@ -82,41 +82,41 @@ module _ (F : Func) {Val : Type 0} (W : World Val) (B Joined : CfgPoint → Bloc
 
   run-inner : (is : List ℕ) (m : Mem Val Value) → ¬ (b ≡ t) → Big (record { at = t; ops = is; mem = m }) (record { at = b; ops = is; mem = m })
   run-inner [] m n = at-once _ _ _ _ _ _ _
-      (subst (λ (x : BlockLifting). MeetOut Fused (leavePoint F W B (B t .term) m) (leavePoint F W Joined (x .term) m)) (sym (ab .at-b n))
+      (subst (λ (x : BlockLifting). MeetOut AbsorbedInto (leavePoint F W B (B t .term) m) (leavePoint F W Joined (x .term) m)) (sym (ab .at-b n))
       (leaving (B t .term) m (λ p i. ab .only t p (λ e. n (sym e)) i)))
-  run-inner (i ∷ is) m n = at-once _ _ _ _ _ _ _ (meet-reading Fused (reads (m .env) (opOf F i .operands)) _ _ (λ vs. out-go (inner is (execute W (opOf F i) i vs m) n)))
+  run-inner (i ∷ is) m n = at-once _ _ _ _ _ _ _ (meet-reading AbsorbedInto (reads (m .env) (opOf F i .operands)) _ _ (λ vs. out-go (inner is (execute W (opOf F i) i vs m) n)))
 
   run-head : (is : List ℕ) (m : Mem Val Value) → ¬ (b ≡ t) → Big (record { at = b; ops = is; mem = m }) (record { at = b; ops = is ++ B t .ops; mem = m })
   run-head [] m n = left-first _ _ _ _ _ (hop m) refl (run-inner (B t .ops) m n)
-  run-head (i ∷ is) m n = at-once _ _ _ _ _ _ _ (meet-reading Fused (reads (m .env) (opOf F i .operands)) _ _ (λ vs. out-go (head is (execute W (opOf F i) i vs m) n)))
+  run-head (i ∷ is) m n = at-once _ _ _ _ _ _ _ (meet-reading AbsorbedInto (reads (m .env) (opOf F i .operands)) _ _ (λ vs. out-go (head is (execute W (opOf F i) i vs m) n)))
 
   run-alone : (q : CfgPoint) (is : List ℕ) (m : Mem Val Value) → ¬ (q ≡ t) → ¬ (q ≡ b) → Big (record { at = q; ops = is; mem = m }) (record { at = q; ops = is; mem = m })
   run-alone q [] m nt nb = at-once _ _ _ _ _ _ _
-      (subst (λ (x : BlockLifting). MeetOut Fused (leavePoint F W B (B q .term) m) (leavePoint F W Joined (x .term) m)) (sym (ab .elsewhere q nt nb))
+      (subst (λ (x : BlockLifting). MeetOut AbsorbedInto (leavePoint F W B (B q .term) m) (leavePoint F W Joined (x .term) m)) (sym (ab .elsewhere q nt nb))
       (leaving (B q .term) m (λ p i. ab .only q p nb i)))
-  run-alone q (i ∷ is) m nt nb = at-once _ _ _ _ _ _ _ (meet-reading Fused (reads (m .env) (opOf F i .operands)) _ _ (λ vs. out-go (alone q is (execute W (opOf F i) i vs m) nt nb)))
+  run-alone q (i ∷ is) m nt nb = at-once _ _ _ _ _ _ _ (meet-reading AbsorbedInto (reads (m .env) (opOf F i .operands)) _ _ (λ vs. out-go (alone q is (execute W (opOf F i) i vs m) nt nb)))
 
-  fused-log : {x y : PointState Val} → Fused x y → pointLog F W B x ≡ pointLog F W Joined y
-  fused-log (alone q is m nt nb) = refl
-  fused-log (head is m n) = refl
-  fused-log (inner is m n) = refl
+  into-log : {x y : PointState Val} → AbsorbedInto x y → pointLog F W B x ≡ pointLog F W Joined y
+  into-log (alone q is m nt nb) = refl
+  into-log (head is m n) = refl
+  into-log (inner is m n) = refl
 
-  fused-macro : {x y : PointState Val} → Fused x y → Big x y
-  fused-macro (alone q is m nt nb) = run-alone q is m nt nb
-  fused-macro (head is m n) = run-head is m n
-  fused-macro (inner is m n) = run-inner is m n
+  into-macro : {x y : PointState Val} → AbsorbedInto x y → Big x y
+  into-macro (alone q is m nt nb) = run-alone q is m nt nb
+  into-macro (head is m n) = run-head is m n
+  into-macro (inner is m n) = run-inner is m n
 
-  at-start : Dec (regionEntry 0 ≡ b) → Fused (pointStart F W B) (pointStart F W Joined)
+  at-start : Dec (regionEntry 0 ≡ b) → AbsorbedInto (pointStart F W B) (pointStart F W Joined)
   at-start (yes e) =
       let m : Mem Val Value = record { env = atFirst F W; log = [] } in
       let n : ¬ (b ≡ t) = λ x. ab .not-first (e ∙ x) in
-      let f : Fused (record { at = b; ops = B b .ops; mem = m }) (record { at = b; ops = Joined b .ops; mem = m })
-      = subst (λ (x : BlockLifting). Fused (record { at = b; ops = B b .ops; mem = m }) (record { at = b; ops = x .ops; mem = m })) (sym (ab .at-b n)) (head (B b .ops) m n) in
-      subst (λ (q : CfgPoint). Fused (record { at = q; ops = B q .ops; mem = m }) (record { at = q; ops = Joined q .ops; mem = m })) (sym e) f
+      let f : AbsorbedInto (record { at = b; ops = B b .ops; mem = m }) (record { at = b; ops = Joined b .ops; mem = m })
+      = subst (λ (x : BlockLifting). AbsorbedInto (record { at = b; ops = B b .ops; mem = m }) (record { at = b; ops = x .ops; mem = m })) (sym (ab .at-b n)) (head (B b .ops) m n) in
+      subst (λ (q : CfgPoint). AbsorbedInto (record { at = q; ops = B q .ops; mem = m }) (record { at = q; ops = Joined q .ops; mem = m })) (sym e) f
   at-start (no n) =
       let m : Mem Val Value = record { env = atFirst F W; log = [] } in
-      subst (λ (x : BlockLifting). Fused (record { at = regionEntry 0; ops = B (regionEntry 0) .ops; mem = m }) (record { at = regionEntry 0; ops = x .ops; mem = m }))
+      subst (λ (x : BlockLifting). AbsorbedInto (record { at = regionEntry 0; ops = B (regionEntry 0) .ops; mem = m }) (record { at = regionEntry 0; ops = x .ops; mem = m }))
       (sym (ab .elsewhere (regionEntry 0) (ab .not-first) n)) (alone (regionEntry 0) (B (regionEntry 0) .ops) m (ab .not-first) n)
 
   pub absorbed-alike : Alike (pointStep F W B) (pointLog F W B) (pointStep F W Joined) (pointLog F W Joined) (pointStart F W B) (pointStart F W Joined)
-  absorbed-alike = alike-of _ _ _ _ Fused (record { same-log = fused-log; macro = fused-macro }) (at-start (eqPoint (regionEntry 0) b))
+  absorbed-alike = alike-of _ _ _ _ AbsorbedInto (record { same-log = into-log; macro = into-macro }) (at-start (eqPoint (regionEntry 0) b))

@@ -27,8 +27,8 @@ clearedNode (select k v cs ds u) = select k v cs ds 0
 clearedNode (loop b c is u) = loop b c is 0
 clearedNode (exit i vs) = exit i vs
 
-abbrev pub cleared : Func → Func
-cleared F = record {
+abbrev pub controlsCleared : Func → Func
+controlsCleared F = record {
   attrs = F .attrs;
   ret = F .ret;
   type = F .type;
@@ -43,28 +43,28 @@ cleared F = record {
 
 -- they differ in control numbers only
 abbrev pub SameButControls : Func → Func → Type 0
-SameButControls F G = cleared F ≡ cleared G
+SameButControls F G = controlsCleared F ≡ controlsCleared G
 
 module _ (F : Func) {Val : Type 0} (W : World Val) where
-  cleared-node : (d : Node) (n : ℕ) (k : List Task) (m : Mem Val Value) → doNode (cleared F) W (clearedNode d) n k m ≡ doNode F W d n k m
+  cleared-node : (d : Node) (n : ℕ) (k : List Task) (m : Mem Val Value) → doNode (controlsCleared F) W (clearedNode d) n k m ≡ doNode F W d n k m
   cleared-node (block is) n k m = refl
   cleared-node (select s v cs ds u) n k m = refl
   cleared-node (loop b c is u) n k m = refl
   cleared-node (exit i vs) n k m = refl
 
-  cleared-tasks : (k : List Task) (m : Mem Val Value) → doTasks (cleared F) W k m ≡ doTasks F W k m
+  cleared-tasks : (k : List Task) (m : Mem Val Value) → doTasks (controlsCleared F) W k m ≡ doTasks F W k m
   cleared-tasks [] m = refl
   cleared-tasks (op i ∷ k) m = refl
   cleared-tasks (node n ∷ k) m =
-      ap (λ (d : Node). doNode (cleared F) W d n k m) (List·getD-map clearedNode (F .nodes) n (block [])) ∙ cleared-node (nodeOf F n) n k m
+      ap (λ (d : Node). doNode (controlsCleared F) W d n k m) (List·getD-map clearedNode (F .nodes) n (block [])) ∙ cleared-node (nodeOf F n) n k m
   cleared-tasks (close ks c ∷ k) m = refl
   cleared-tasks (again b c ∷ k) m = refl
   cleared-tasks (leave r ∷ k) m = refl
 
-  cleared-step : (s : RegionState Val) → regionStep (cleared F) W s ≡ regionStep F W s
+  cleared-step : (s : RegionState Val) → regionStep (controlsCleared F) W s ≡ regionStep F W s
   cleared-step s = cleared-tasks (s .todo) (s .mem)
 
-  cleared-runs : (l : List Instruction) → AlikeRuns (cleared F) l W ≡ AlikeRuns F l W
+  cleared-runs : (l : List Instruction) → AlikeRuns (controlsCleared F) l W ≡ AlikeRuns F l W
   cleared-runs l = ap (λ (step : RegionState Val → Out (RegionState Val) (End Val)). Alike step (regionLog F W) (blockStep W (parts l .blocks)) (blockLog W (parts l .blocks)) (regionStart F W) (blockStart W (F .consts) l)) (λ i s. cleared-step s i)
 
 module _ (F G : Func) (same : SameButControls F G) {Val : Type 0} (W : World Val) where

@@ -30,14 +30,14 @@ use Rattle.lifting_runs.specs.Stuck.{regions-go-on}
 use Rattle.lifting_runs.specs.AcceptedRuns.{accepted-alike, blocks-go-on}
 use Rattle.lifting_runs.specs.IdsOnce.{number-at}
 use Rattle.lifting_runs.specs.Pairs.{OnePairEach, one-pair-each}
-use Rattle.lifting_runs.specs.Passes.{Passed, answer-passes}
+use Rattle.lifting_runs.specs.Passes.{ListPassed, answer-passes}
 use Rattle.lifting_runs.specs.EveryText.{Fine, accepted-text, every-fine}
 
 module _ (text : List ℕ) (first func work out : ℕ) (ws : List ℕ) (next : ℕ) (ok : answer text first func work out ≡ listed ws next)
     (F : Func) (is : read text ≡ some F) where
-  pub passed : Passed text first out F ws next
+  pub passed : ListPassed text first out F ws next
   passed = let w = answer-passes text first func work out ws next ok in
-      subst (λ (G : Func). Passed text first out G ws next) (Option·some-injective (w .0) F (sym (w .1 .text-is) ∙ is)) (w .1)
+      subst (λ (G : Func). ListPassed text first out G ws next) (Option·some-injective (w .0) F (sym (w .1 .text-is) ∙ is)) (w .1)
 
   pub list-is : listFrom ws ≡ listOf F first
   list-is = ap listFrom (passed .words-are) ∙ list-from (listOf F first)

@@ -56,20 +56,20 @@ module _ (F : Func) (P : CfgPoint × BlockLifting → Type 0) {R : ℕ → Type 
       by-body false = tt
 
 -- the block at b absorbs the block at t
-abbrev pub taken : CfgPoint → CfgPoint → Absorbing → Absorbing
-taken b t s = record { table = absorbInto b t (blockAt (s .table) t) (s .table); counts = λ q. choose (eqPoint q t) 0 (s .counts q) }
+abbrev pub absorbedBy : CfgPoint → CfgPoint → Absorbing → Absorbing
+absorbedBy b t s = record { table = absorbInto b t (blockAt (s .table) t) (s .table); counts = λ q. choose (eqPoint q t) 0 (s .counts q) }
 
 -- What every absorption leaves as it is holds after all of them. An absorption is of a sole target of count 1 without phis.
-module _ (I : Absorbing → Type 0) (takes : (b t : CfgPoint) (s : Absorbing) → I s → soleTarget (blockAt (s .table) b .term) ≡ some t → s .counts t ≡ 1 → blockAt (s .table) t .keys ≡ [] → I (taken b t s)) where
+module _ (I : Absorbing → Type 0) (takes : (b t : CfgPoint) (s : Absorbing) → I s → soleTarget (blockAt (s .table) b .term) ≡ some t → s .counts t ≡ 1 → blockAt (s .table) t .keys ≡ [] → I (absorbedBy b t s)) where
   after-target : (b : CfgPoint) (o : Option CfgPoint) (s : Absorbing) → I s → soleTarget (blockAt (s .table) b .term) ≡ o → I (tryTarget b o s)
   after-target b none s h e = h
   after-target b (some t) s h e = by-count (ℕ-discrete (s .counts t) 1)
     where
-      by-keys : s .counts t ≡ 1 → (ks : List Value) → blockAt (s .table) t .keys ≡ ks → I (ifNoPhis ks (taken b t s) s)
+      by-keys : s .counts t ≡ 1 → (ks : List Value) → blockAt (s .table) t .keys ≡ ks → I (ifNoPhis ks (absorbedBy b t s) s)
       by-keys u [] k = takes b t s h e u k
       by-keys u (x ∷ ks) k = h
 
-      by-count : (d : Dec (s .counts t ≡ 1)) → I (choose d (ifNoPhis (blockAt (s .table) t .keys) (taken b t s) s) s)
+      by-count : (d : Dec (s .counts t ≡ 1)) → I (choose d (ifNoPhis (blockAt (s .table) t .keys) (absorbedBy b t s) s) s)
       by-count (yes u) = by-keys u (blockAt (s .table) t .keys) refl
       by-count (no n) = h
 
@@ -85,14 +85,14 @@ module _ (I : Absorbing → Type 0) (takes : (b t : CfgPoint) (s : Absorbing) �
   after-all T h = after-turns (points T) (record { table = T; counts = useCount T }) h
 
 -- of the table alone
-module _ (I : Table → Type 0) (fuses : (b t : CfgPoint) (T : Table) → I T → I (absorbInto b t (blockAt T t) T)) where
+module _ (I : Table → Type 0) (absorbs : (b t : CfgPoint) (T : Table) → I T → I (absorbInto b t (blockAt T t) T)) where
   pub after-absorb : (T : Table) → I T → I (absorb T .table)
-  after-absorb T h = after-all (λ s. I (s .table)) (λ b t s i e u k. fuses b t (s .table) i) T h
+  after-absorb T h = after-all (λ s. I (s .table)) (λ b t s i e u k. absorbs b t (s .table) i) T h
 
 -- of each entry
-pub all-fuse : (P : CfgPoint × BlockLifting → Type 0) (b t : CfgPoint) (c : BlockLifting) → ((x : CfgPoint × BlockLifting) → P x → P (x .0, refit b t c (x .0) (x .1))) → (T : Table) → All P T → All P (absorbInto b t c T)
-all-fuse P b t c f [] h = tt
-all-fuse P b t c f (x ∷ T) h = (f x (h .0), all-fuse P b t c f T (h .1))
+pub all-absorb : (P : CfgPoint × BlockLifting → Type 0) (b t : CfgPoint) (c : BlockLifting) → ((x : CfgPoint × BlockLifting) → P x → P (x .0, refit b t c (x .0) (x .1))) → (T : Table) → All P T → All P (absorbInto b t c T)
+all-absorb P b t c f [] h = tt
+all-absorb P b t c f (x ∷ T) h = (f x (h .0), all-absorb P b t c f T (h .1))
 
 -- each block
 abbrev pub Each : (BlockLifting → Type 0) → Table → Type 0
@@ -106,8 +106,8 @@ each-at P bare T h p = by-case (find eqPoint p T) refl
     by-case (some b) e = all-in _ T h (p, b) (find-in eqPoint p T e)
 
 module _ (P : BlockLifting → Type 0) (bare : P (plain nothingHere)) (empties : (b : BlockLifting) → P b → P (emptied b)) (joins : (b c : BlockLifting) → P b → P c → P (joined b c)) where
-  pub each-fuse : (b t : CfgPoint) (c : BlockLifting) → P c → (T : Table) → Each P T → Each P (absorbInto b t c T)
-  each-fuse b t c hc = all-fuse (λ x. P (x .1)) b t c (λ x h. by-case (x .1) h (eqPoint (x .0) t) (eqPoint (x .0) b))
+  pub each-absorb : (b t : CfgPoint) (c : BlockLifting) → P c → (T : Table) → Each P T → Each P (absorbInto b t c T)
+  each-absorb b t c hc = all-absorb (λ x. P (x .1)) b t c (λ x h. by-case (x .1) h (eqPoint (x .0) t) (eqPoint (x .0) b))
     where
       by-case : {A B : Type 0} (e : BlockLifting) → P e → (d : Dec A) (g : Dec B) → P (choose d (emptied e) (choose g (joined e c) e))
       by-case e h (yes y) g = empties e h
@@ -115,7 +115,7 @@ module _ (P : BlockLifting → Type 0) (bare : P (plain nothingHere)) (empties :
       by-case e h (no n) (no m) = h
 
   pub each-absorbed : (T : Table) → Each P T → Each P (absorb T .table)
-  each-absorbed = after-absorb (Each P) (λ b t T h. each-fuse b t (blockAt T t) (each-at P bare T h t) T h)
+  each-absorbed = after-absorb (Each P) (λ b t T h. each-absorb b t (blockAt T t) (each-at P bare T h t) T h)
 
   each-keep : (c : CfgPoint → ℕ) (T : Table) → Each P T → Each P (keep c T)
   each-keep c [] h = tt

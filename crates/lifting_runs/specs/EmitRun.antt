@@ -19,8 +19,8 @@ use Rattle.lifting.specs.Ids.{idOf, label, labelOf, names, newValues, value}
 use Rattle.lifting.specs.Instructions.{Instruction, bodyInsts, ifUsed, opInst, opOpcode, pairs, phiInst, phiInsts, resultId, termImms, termInst, termOpcode}
 use Rattle.lifting.specs.Machine.{Alike, Out, go, halt}
 use Rattle.lifting.specs.World.{End, Executed, Mem, World, exited, pick, put, puts, reading, reads}
-use Rattle.lifting.specs.RegionRun.{atFirst, calleeOf, entry, setResult}
-use Rattle.lifting.specs.BlockRun.{BlockState, blockLog, blockStep, comeIn, doInsts, executeInst, goNth, goTo, headId, isKind, labelsIn, operandsIn, otherWay, pairOf, pairsFor, results, runOf, selectionOf, setId, tailIds, wayBy, wayOut}
+use Rattle.lifting.specs.RegionRun.{atFirst, calleeFunction, executedOp, setResult}
+use Rattle.lifting.specs.BlockRun.{BlockState, blockLog, blockStep, comeIn, doInsts, executeInst, goNth, goTo, headId, isKind, labelsAmong, operandsIn, otherWay, pairOf, pairsFor, results, runOf, selectionOf, setId, tailIds, wayBy, wayOut}
 use Rattle.general_laws.specs.Members.{All, In, all-in, here, in-getD, in-map, in-right, map-in, tabulate-all, there}
 use Rattle.general_laws.specs.Tests.{find-in}
 use Rattle.lifting_runs.specs.Accepted.{Enough, FreeInst, FreeKind, FreeOp, Numbered, WayFit}
@@ -28,7 +28,7 @@ use Rattle.lifting_runs.specs.Simulation.{Macro, MeetOut, alike-of, at-o
 use Rattle.lifting_runs.specs.PointRun.{PointState, doOps, jump, leavePoint, pointLog, pointStart, pointStep, pointWay}
 use Rattle.lifting_runs.specs.Structure.{meet-reading, pick-lt}
 use Rattle.lifting_runs.specs.AbsorbCount.{in-count}
-use Rattle.lifting_runs.specs.Ids.{EnvRel, KnownIds, id-label, id-positive, label-inj, put-same, puts-same, reads-same, split-labels}
+use Rattle.lifting_runs.specs.Ids.{EnvRel, KnownIds, id-label, id-positive, label-inj, set-same, puts-same, reads-same, split-labels}
 use Rattle.lifting_runs.specs.Listing.{AllFree, Free, FreeOps, blocksFor, body-phis, body-run, free-kind}
 
 getD-map-in : {A B : Type 0} (f : A → B) (l : List A) (i : ℕ) (d : A) (c : B) → i < length l → getD (map f l) i c ≡ f (getD l i d)
@@ -187,7 +187,7 @@ module _ (F : Func) (first : ℕ) (T K : Table) where
     called k = eqb (opOpcode k) (opcodeOf FunctionCall) || eqb (opOpcode k) (opcodeOf ExtInst)
 
     call-ids : (k : DataInstKind) (l : List ℕ) → FreeOp k → (cond (called k) (tailIds (calleeIds k ++ l)) (calleeIds k ++ l) ≡ l)
-        × (cond (called k) (headId (calleeIds k ++ l)) none ≡ calleeOf k)
+        × (cond (called k) (headId (calleeIds k ++ l)) none ≡ calleeFunction k)
     call-ids (inst i) l h = rw (free-kind (i .opcode) FunctionCall h) (rw (free-kind (i .opcode) ExtInst h) (refl, refl))
     call-ids (call f) l h = (refl, refl)
     call-ids (ext s n) l h = (refl, refl)
@@ -210,7 +210,7 @@ module _ (F : Func) (first : ℕ) (T K : Table) where
         where
           by-id : (x : ℕ) → idOf F first T K (dataInstOutput i) ≡ x → Rel (put eqValue e (dataInstOutput i) (W .result n)) (setId W x f n)
           by-id zero h = absurd (omega (arith, h, id-positive F first T K (ok .numbered) (dataInstOutput i) k))
-          by-id (suc x) h = subst (λ (y : ℕ). Rel (put eqValue e (dataInstOutput i) (W .result n)) (put ℕ-discrete f y (W .result n))) h (put-same F first T K (ok .numbered) e f r (dataInstOutput i) k (W .result n))
+          by-id (suc x) h = subst (λ (y : ℕ). Rel (put eqValue e (dataInstOutput i) (W .result n)) (put ℕ-discrete f y (W .result n))) h (set-same F first T K (ok .numbered) e f r (dataInstOutput i) k (W .result n))
 
       -- an op is not the last instruction
       op-step : (i : Instruction) (l : List Instruction) (t : Instruction) (p : ℕ) (m : Mem Val ℕ)
@@ -227,7 +227,7 @@ module _ (F : Func) (first : ℕ) (T K : Table) where
           let x = opInst F first T K i in
           let c = call-ids (o .kind) (map (idOf F first T K) (o .operands)) (oi .0) in
           let right : doInsts W bs (rest (i ∷ is) (d .term)) (labelOf F first T K q) (record { env = f; log = l })
-          ≡ reading (reads e (o .operands)) (λ vs. go (record { at = labelOf F first T K q; todo = rest is (d .term); mem = record { env = setId W (x .result) f (length l); log = l ++ (entry o vs ∷ []) } }))
+          ≡ reading (reads e (o .operands)) (λ vs. go (record { at = labelOf F first T K q; todo = rest is (d .term); mem = record { env = setId W (x .result) f (length l); log = l ++ (executedOp o vs ∷ []) } }))
           = op-step x (map (opInst F first T K) is) (termInst F first T K (d .term)) (labelOf F first T K q) (record { env = f; log = l })
           ∙ ap (λ (a : List ℕ). reading (reads f a) (λ vs. go (record { at = labelOf F first T K q; todo = rest is (d .term); mem = executeInst W x vs (record { env = f; log = l }) }))) (c .0)
           ∙ ap (λ (a : Option (List Val)). reading a (λ vs. go (record { at = labelOf F first T K q; todo = rest is (d .term); mem = executeInst W x vs (record { env = f; log = l }) })))
@@ -242,7 +242,7 @@ module _ (F : Func) (first : ℕ) (T K : Table) where
           }))) (c .1) in
           subst (λ (y : Out (BlockState Val) (End Val)). MeetOut Wrote (doOps F W (blockAt K) (i ∷ is) q (record { env = e; log = l })) y) (sym right)
           (meet-reading Wrote (reads e (o .operands)) _ _ (λ vs.
-          out-go (wrote q d is (setResult W (o .type) e i (length l)) (setId W (x .result) f (length l)) (l ++ (entry o vs ∷ [])) fq ois (result-same (o .type) i (length l) e f (oi .2) r))))
+          out-go (wrote q d is (setResult W (o .type) e i (length l)) (setId W (x .result) f (length l)) (l ++ (executedOp o vs ∷ [])) fq ois (result-same (o .type) i (length l) e f (oi .2) r))))
 
       -- along an edge
       abbrev goParts : ℕ → ℕ → List Instruction → List Instruction → Mem Val ℕ → Out (BlockState Val) (End Val)
@@ -372,7 +372,7 @@ module _ (F : Func) (first : ℕ) (T K : Table) where
           let sp = split-labels (keys bs) (map (idOf F first T K) (t .ins)) ts (all-others (t .ins) (bp .ins-known)) (all-labels (t .targets) (bp .targets-kept)) in
           let right : wayOut W bs lp (termInst F first T K t) m ≡ reading (reads e (t .ins)) (λ vs. wayBy W bs lp (termInst F first T K t) ts vs m)
           = ap (λ (x : List ℕ). reading (reads f x) (λ vs. wayBy W bs lp (termInst F first T K t)
-          (labelsIn (keys bs) (map (idOf F first T K) (t .ins) ++ ts)) vs m)) (sp .1)
+          (labelsAmong (keys bs) (map (idOf F first T K) (t .ins) ++ ts)) vs m)) (sp .1)
           ∙ ap (λ (x : List ℕ). reading (reads f (map (idOf F first T K) (t .ins))) (λ vs. wayBy W bs lp (termInst F first T K t) x vs m)) (sp .0)
           ∙ ap (λ (x : Option (List Val)). reading x (λ vs. wayBy W bs lp (termInst F first T K t) ts vs m))
           (sym (reads-same F first T K (ok .numbered) e f r (t .ins) (bp .ins-known))) in

@@ -17,18 +17,18 @@ use Rattle.lifting.specs.Parts.{childrenOf, nodeOf, regionOf}
 use Rattle.lifting.specs.Counts.{endsInExit}
 use Rattle.lifting.specs.Points.{BlockLifting, CfgPoint, Table, Terminator, blockAt, blockOr, eqPoint, nodeEntry, nodeExit, nothingHere, plain, points, regionEntry, regionExit, straight}
 use Rattle.lifting.specs.Walk.{Place, walkOf}
-use Rattle.lifting.specs.Absorb.{Absorbing, absorb, absorbAll, absorbAt, countIn, emptied, firstUse, ifNoPhis, joined, kept, labels, one, soleTarget, tryTarget, useCount, uses}
+use Rattle.lifting.specs.Absorb.{Absorbing, absorb, absorbAll, absorbAt, countIn, emptied, firstUse, ifNoPhis, joined, kept, labels, countOne, soleTarget, tryTarget, useCount, uses}
 use Rattle.general_laws.specs.Members.{All, In, NoDup, all-from, all-in, here, in-cases, in-nil, there}
 use Rattle.general_laws.specs.Tests.{find-in}
 use Rattle.lifting_runs.specs.Places.{VisitedAt, at-body, by-ctrl, in-case, in-loop, whole}
-use Rattle.lifting_runs.specs.AbsorbCount.{block-keys, block-other, sole-straight, usesAt}
-use Rattle.lifting_runs.specs.Each.{after-all, after-turn, after-turns, all-fuse, taken}
+use Rattle.lifting_runs.specs.AbsorbCount.{block-keys, block-other, sole-straight, usesFrom}
+use Rattle.lifting_runs.specs.Each.{after-all, after-turn, after-turns, all-absorb, absorbedBy}
 use Rattle.lifting_runs.specs.Tour.{in-points}
 use Rattle.lifting_runs.specs.Pairs.{counted-in}
 use Rattle.lifting_runs.specs.Ended.{Behind, CaseEnds, Ended, isSelect, last-exit, lastOf, case-ended, suffix-last}
 use Rattle.lifting_runs.specs.Terms.{TermOk, nothing-ok}
 use Rattle.lifting_runs.specs.KeptTerms.{in-keep}
-use Rattle.lifting_runs.specs.Shaped.{Shaped, behind, laid, terms, visited-out, walk-first, walk-once}
+use Rattle.lifting_runs.specs.Shaped.{Shaped, behind-exits, laid, terms, visited-out, walk-first, walk-once}
 
 -- ---- uses
 
@@ -40,11 +40,11 @@ never-used [] q h = refl
 never-used (x ∷ T) q h = omega (arith, unused q (labels (x .1 .term)) (h x here), never-used T q (λ y i. h y (there i)))
 
 -- where only the block at p uses q
-used-by : (T : Table) (p q : CfgPoint) → NoDup (points T) → ((x : CfgPoint × BlockLifting) → In x T → In q (labels (x .1 .term)) → x .0 ≡ p) → uses T q ≡ usesAt T p q
+used-by : (T : Table) (p q : CfgPoint) → NoDup (points T) → ((x : CfgPoint × BlockLifting) → In x T → In q (labels (x .1 .term)) → x .0 ≡ p) → uses T q ≡ usesFrom T p q
 used-by [] p q n h = refl
 used-by (x ∷ T) p q n h = by-point (eqPoint p (x .0)) (used-by T p q (n .1) (λ y i. h y (there i)))
   where
-    by-point : (d : Dec (p ≡ x .0)) → uses T q ≡ usesAt T p q → countIn q (labels (x .1 .term)) + uses T q ≡ countIn q (labels (blockOr (choose d (some (x .1)) (find eqPoint p T)) .term))
+    by-point : (d : Dec (p ≡ x .0)) → uses T q ≡ usesFrom T p q → countIn q (labels (x .1 .term)) + uses T q ≡ countIn q (labels (blockOr (choose d (some (x .1)) (find eqPoint p T)) .term))
     by-point (yes e) ih =
         omega (arith, never-used T q (λ y i j. n .0 (subst (λ (r : CfgPoint). In r (points T)) (h y (there i) j ∙ e) (in-points T y i))))
     by-point (no a) ih = omega (arith, unused q (labels (x .1 .term)) (λ j. a (sym (h x here j))))
@@ -64,7 +64,7 @@ module _ (p t : CfgPoint) where
     free : s .counts p ≡ 0
     way : (s .counts t ≡ 0) ⊎ ((s .counts t ≡ 1) × (blockAt (s .table) p .term ≡ straight t) × (blockAt (s .table) t .keys ≡ []))
 
-  due-taken : (b r : CfgPoint) (s : Absorbing) → Due s → soleTarget (blockAt (s .table) b .term) ≡ some r → s .counts r ≡ 1 → blockAt (s .table) r .keys ≡ [] → Due (taken b r s)
+  due-taken : (b r : CfgPoint) (s : Absorbing) → Due s → soleTarget (blockAt (s .table) b .term) ≡ some r → s .counts r ≡ 1 → blockAt (s .table) r .keys ≡ [] → Due (absorbedBy b r s)
   due-taken b r s d e u ks = record { free = stays-low p r (s .counts p) (d .free); way = by-way (d .way) }
     where
       U : Table
@@ -76,12 +76,12 @@ module _ (p t : CfgPoint) where
           n cc
 
       by-way : (s .counts t ≡ 0) ⊎ ((s .counts t ≡ 1) × (blockAt U p .term ≡ straight t) × (blockAt U t .keys ≡ []))
-          → (taken b r s .counts t ≡ 0) ⊎ ((taken b r s .counts t ≡ 1) × (blockAt (taken b r s .table) p .term ≡ straight t) × (blockAt (taken b r s .table) t .keys ≡ []))
+          → (absorbedBy b r s .counts t ≡ 0) ⊎ ((absorbedBy b r s .counts t ≡ 1) × (blockAt (absorbedBy b r s .table) p .term ≡ straight t) × (blockAt (absorbedBy b r s .table) t .keys ≡ []))
       by-way (inl z) = inl (stays-low t r (s .counts t) z)
-      by-way (inr (one, l, k)) = elim (eqPoint t r) [
+      by-way (inr (countOne, l, k)) = elim (eqPoint t r) [
         | yes z ↦ inl (choose-yes (eqPoint t r) 0 (s .counts t) z)
         | no n ↦ inr (
-          choose-no (eqPoint t r) 0 (s .counts t) n ∙ one,
+          choose-no (eqPoint t r) 0 (s .counts t) n ∙ countOne,
           ap (λ (x : BlockLifting). x .term) (block-other b r (blockAt U r) U p (λ z. omega (arith, ap (s .counts) z, d .free)) (apart n l)) ∙ l,
           block-keys b r (blockAt U r) U t .0 ∙ k,
         )
@@ -99,17 +99,17 @@ module _ (p t : CfgPoint) where
   unfolding Gone
   own-turn s d = by-way (d .way)
     where
-      by-keys : (ks : List Value) → ks ≡ [] → ifNoPhis ks (taken p t s) s .counts t ≡ 0
+      by-keys : (ks : List Value) → ks ≡ [] → ifNoPhis ks (absorbedBy p t s) s .counts t ≡ 0
       by-keys [] e = choose-yes (eqPoint t t) 0 (s .counts t) refl
       by-keys (k ∷ ks) e = absurd (let z : _≡_ {A = ℕ} 0 1 = cc in omega arith)
 
-      by-count : (d : Dec (s .counts t ≡ 1)) → s .counts t ≡ 1 → blockAt (s .table) t .keys ≡ [] → choose d (ifNoPhis (blockAt (s .table) t .keys) (taken p t s) s) s .counts t ≡ 0
-      by-count (yes u) one k = by-keys (blockAt (s .table) t .keys) k
-      by-count (no n) one k = absurd (n one)
+      by-count : (d : Dec (s .counts t ≡ 1)) → s .counts t ≡ 1 → blockAt (s .table) t .keys ≡ [] → choose d (ifNoPhis (blockAt (s .table) t .keys) (absorbedBy p t s) s) s .counts t ≡ 0
+      by-count (yes u) countOne k = by-keys (blockAt (s .table) t .keys) k
+      by-count (no n) countOne k = absurd (n countOne)
 
       by-way : (s .counts t ≡ 0) ⊎ ((s .counts t ≡ 1) × (blockAt (s .table) p .term ≡ straight t) × (blockAt (s .table) t .keys ≡ [])) → absorbAt p s .counts t ≡ 0
       by-way (inl z) = gone-stays p s z
-      by-way (inr (one, l, k)) = ap (λ (e : Terminator). tryTarget p (soleTarget e) s .counts t) l ∙ by-count (ℕ-discrete (s .counts t) 1) one k
+      by-way (inr (countOne, l, k)) = ap (λ (e : Terminator). tryTarget p (soleTarget e) s .counts t) l ∙ by-count (ℕ-discrete (s .counts t) 1) countOne k
 
   all-turns : (l : List CfgPoint) (s : Absorbing) → Due s → In p l → Gone (absorbAll l s)
   all-turns [] s d h = absurd (in-nil h)
@@ -152,7 +152,7 @@ module _ (F : Func) (ok : Shaped F) where
   count-out n en = omega (
     arith,
     first-no (nodeExit n) (λ z. let o : _≡_ {A = ℕ} 0 1 = cc in omega arith),
-    never-used T (nodeExit n) (λ x i j. let w = all-in (Behind F) T (behind F ok) x i (nodeExit n) j en in let e = w .1 in let o : _≡_ {A = ℕ} 0 1 = cc in omega arith),
+    never-used T (nodeExit n) (λ x i j. let w = all-in (Behind F) T (behind-exits F ok) x i (nodeExit n) j en in let e = w .1 in let o : _≡_ {A = ℕ} 0 1 = cc in omega arith),
   )
 
   module _ (c : ℕ) (ce : CaseEnds F c) where
@@ -165,9 +165,9 @@ module _ (F : Func) (ok : Shaped F) where
     pub count-case : useCount (walkOf F) (regionExit c) ≡ 1
     unfolding useCount
     count-case =
-        let only = used-by T (nodeExit last) (regionExit c) (walk-once F ok) (λ x i j. let w = all-in (Behind F) T (behind F ok) x i (regionExit c) j ce in
+        let only = used-by T (nodeExit last) (regionExit c) (walk-once F ok) (λ x i j. let w = all-in (Behind F) T (behind-exits F ok) x i (regionExit c) j ce in
         w .2 ∙ ap (λ (r : ℕ). nodeExit (lastOf (regionOf F r .nodes))) (let e = w .1 in cc)) in
-        let own : usesAt T (nodeExit last) (regionExit c) ≡ one (regionExit c) (regionExit c) + 0 = ap (λ (e : Terminator). countIn (regionExit c) (labels e)) last-leads in
+        let own : usesFrom T (nodeExit last) (regionExit c) ≡ countOne (regionExit c) (regionExit c) + 0 = ap (λ (e : Terminator). countIn (regionExit c) (labels e)) last-leads in
         omega (arith, first-no (regionExit c) (λ z. let o : _≡_ {A = ℕ} 0 1 = cc in omega arith), choose-yes {A = ℕ} (eqPoint (regionExit c) (regionExit c)) 1 0 refl)
 
     case-dropped : absorb (walkOf F) .counts (regionExit c) ≡ 0
@@ -195,8 +195,8 @@ module _ (F : Func) (ok : Shaped F) where
       by-find none e = sorted-none p (plain nothingHere) refl
       by-find (some b) e = all-in Sorted U h (p, b) (find-in eqPoint p U e)
 
-  sorted-taken : (b t : CfgPoint) (s : Absorbing) → All Sorted (s .table) → soleTarget (blockAt (s .table) b .term) ≡ some t → s .counts t ≡ 1 → blockAt (s .table) t .keys ≡ [] → All Sorted (taken b t s .table)
-  sorted-taken b t s h e u k = all-fuse Sorted b t (blockAt U t) (λ x g. by-point x g (eqPoint (x .0) t) (eqPoint (x .0) b)) U h
+  sorted-taken : (b t : CfgPoint) (s : Absorbing) → All Sorted (s .table) → soleTarget (blockAt (s .table) b .term) ≡ some t → s .counts t ≡ 1 → blockAt (s .table) t .keys ≡ [] → All Sorted (absorbedBy b t s .table)
+  sorted-taken b t s h e u k = all-absorb Sorted b t (blockAt U t) (λ x g. by-point x g (eqPoint (x .0) t) (eqPoint (x .0) b)) U h
     where
       U : Table
       U = s .table
@@ -219,7 +219,7 @@ module _ (F : Func) (ok : Shaped F) where
   sorted = after-all (λ s. All Sorted (s .table)) sorted-taken T (all-from Sorted T (λ x i. (
     elim (all-in _ T (terms F ok) x i) [ inl lo ↦ inl (case-ended F (x .0) lo) | inr f ↦ inr f ],
     λ q j en.
-        let w = all-in (Behind F) T (behind F ok) x i q j en in
+        let w = all-in (Behind F) T (behind-exits F ok) x i q j en in
         subst (Ended F) (sym (w .2)) (last-exit F (regionOf F (w .0) .nodes) (subst (Ended F) (w .1) en .ends)),
   )))
 

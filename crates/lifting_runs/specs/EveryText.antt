@@ -14,14 +14,14 @@ use Rattle.general_laws.specs.Members.{All, NoDup, all-in, in-nil}
 use Rattle.general_laws.specs.Tests.{all-gather}
 use Rattle.lifting_runs.specs.Accepted.{Accepted}
 use Rattle.lifting_runs.specs.Refers.{refers}
-use Rattle.lifting_runs.specs.Fits.{forest, numbered}
+use Rattle.lifting_runs.specs.Fits.{forest, numbers-fit}
 use Rattle.lifting_runs.specs.Forest.{tree-of}
 use Rattle.lifting_runs.specs.EmitRun.{Sound}
 use Rattle.lifting_runs.specs.AcceptedRuns.{NoCon, keys-plain, someWorld, sound}
 use Rattle.lifting_runs.specs.IdsOnce
 use Rattle.lifting_runs.specs.Numbering.{no-name-twice, no-point-twice}
 use Rattle.lifting_runs.specs.ListIds.{Fresh}
-use Rattle.lifting_runs.specs.Passes.{Passed, accepted-of}
+use Rattle.lifting_runs.specs.Passes.{ListPassed, accepted-of}
 
 -- a function without a body is not walked
 pub walk-none : (F : Func) → F .regions ≡ [] → walkOf F ≡ []
@@ -43,7 +43,7 @@ pub record Fine (F : Func) (first : ℕ) (T K : Table) : Type 0 where
   pub names-once : NoDup (names F T K)
   pub phis-fresh : All (Fresh F first T K) (phiKeys T)
 
-module _ (F : Func) (first : ℕ) (text : List ℕ) (out : ℕ) (ws : List ℕ) (next : ℕ) (p : Passed text first out F ws next) where
+module _ (F : Func) (first : ℕ) (text : List ℕ) (out : ℕ) (ws : List ℕ) (next : ℕ) (p : ListPassed text first out F ws next) where
   pub accepted-text : hasBody (F .regions) ≡ true → Accepted F first
   accepted-text body = accepted-of F first body (p .references) (p .tree) (p .counts) (p .control) (p .ids) (p .values)
 
@@ -80,7 +80,7 @@ module _ (F : Func) (first : ℕ) (text : List ℕ) (out : ℕ) (ws : List ℕ) 
       let refs = refers F (p .references) in
       let f = forest F refs (p .tree) in
       record {
-        sound = record { numbered = numbered F first refs (p .ids); all-ok = tt };
+        sound = record { numbered = numbers-fit F first refs (p .ids); all-ok = tt };
         points-once = tt;
         names-once = IdsOnce.names-once F _ (tree-of F (f .0)) (f .1) (f .0) [] (λ r i. absurd (in-nil i)) tt;
         phis-fresh = tt;

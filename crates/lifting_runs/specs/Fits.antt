@@ -139,8 +139,8 @@ module _ (F : Func) where
   unfolding targetsDiffer
   ctrl-differs differ r {c} e = every-in (λ x. boolDistinct (x .1 .kind) (x .1 .to)) (F .ctrls) differ (r, c) (find-in ℕ-discrete r (F .ctrls) e)
 
-  pub targets : Refers F → hasBody (F .regions) ≡ true → Root F 0 → controlFits F ≡ true → Targets F
-  targets ok body root control = record {
+  pub targets-fit : Refers F → hasBody (F .regions) ≡ true → Root F 0 → controlFits F ≡ true → Targets F
+  targets-fit ok body root control = record {
     some-region = some-regions (F .regions) body;
     in-range = λ r s {c} e. all-in _ (c .to) (ok .targets-below r e) s;
     body-root = root;
@@ -200,9 +200,9 @@ module _ (F : Func) where
   }
 
   -- 9, and the const ids of 4
-  pub numbered : (first : ℕ) → Refers F → idsFit F first ≡ true → Numbered F first
+  pub numbers-fit : (first : ℕ) → Refers F → idsFit F first ≡ true → Numbered F first
   unfolding ids requiredIds
-  numbered first ok e =
+  numbers-fit first ok e =
       let f = first-fits F first e in
       record {
         positive = f .positive;

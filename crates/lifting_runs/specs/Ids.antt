@@ -14,7 +14,7 @@ use Rattle.lifting.specs.Parts.{constOf}
 use Rattle.lifting.specs.Points.{CfgPoint, Table}
 use Rattle.lifting.specs.Ids.{Name, eqName, idOf, label, labelOf, names, newId, numberIn, value}
 use Rattle.lifting.specs.World.{andSome, put, puts, reads}
-use Rattle.lifting.specs.BlockRun.{consIf, labelsIn, othersIn}
+use Rattle.lifting.specs.BlockRun.{consIf, labelsAmong, othersIn}
 use Rattle.general_laws.specs.Members.{All, In, here, in-nil, there, within-no, within-yes}
 use Rattle.lifting_runs.specs.Accepted.{Numbered}
 
@@ -34,9 +34,9 @@ number-range k x (y ∷ l) = by-case (eqName x y) (number-range (suc k) x l)
     by-case (no n) (inl z) = inl z
     by-case (no n) (inr h) = inr (omega (arith, h .0), omega (arith, h .1))
 
-pub number-low : (k : ℕ) (x : Name) (l : List Name) → In x l → k ≤ numberIn k x l
-number-low k x [] i = absurd (in-nil i)
-number-low k x (y ∷ l) i = by-case (eqName x y) (number-low (suc k) x l)
+pub number-from : (k : ℕ) (x : Name) (l : List Name) → In x l → k ≤ numberIn k x l
+number-from k x [] i = absurd (in-nil i)
+number-from k x (y ∷ l) i = by-case (eqName x y) (number-from (suc k) x l)
   where
     by-case : (d : Dec (x ≡ y)) → (In x l → suc k ≤ numberIn (suc k) x l) → k ≤ choose d k (numberIn (suc k) x l)
     by-case (yes e) ih = omega arith
@@ -54,7 +54,7 @@ number-inj (z ∷ l) k x y p i e = by-case (eqName x z) (eqName y z) (number-inj
         → choose d k (numberIn (suc k) x l) ≡ choose c k (numberIn (suc k) y l) → x ≡ y
     by-case (yes a) (yes b) ih q = a ∙ sym b
     by-case (yes a) (no b) ih q = absurd (off (number-range (suc k) y l) q)
-    by-case (no a) (yes b) ih q = absurd (omega (arith, number-low (suc k) x l (tail-of i a)))
+    by-case (no a) (yes b) ih q = absurd (omega (arith, number-from (suc k) x l (tail-of i a)))
     by-case (no a) (no b) ih q = ih (tail-of i a) q
 
 module _ (F : Func) (first : ℕ) (T K : Table) where
@@ -88,7 +88,7 @@ module _ (F : Func) (first : ℕ) (T K : Table) where
 
     new-low : {x : Name} → In x (names F T K) → first ≤ newId F first T K x
     unfolding newId
-    new-low {x} i = number-low first x (names F T K) i
+    new-low {x} i = number-from first x (names F T K) i
 
     pub id-inj : (v w : Value) → KnownIds v → KnownIds w → idOf F first T K v ≡ idOf F first T K w → v ≡ w
     id-inj v w kv kw e = by-view (view v) (view w)
@@ -139,9 +139,9 @@ module _ (F : Func) (first : ℕ) (T K : Table) where
       reads-same e f r (v ∷ vs) h =
           ap (λ (o : Option Val). andSome o (reads e vs)) (r v (h .0)) ∙ ap (λ (o : Option (List Val)). andSome (f (idOf F first T K v)) o) (reads-same e f r vs (h .1))
 
-      pub put-same : (e : Value → Option Val) (f : ℕ → Option Val) → EnvRel e f → (v : Value) → KnownIds v → (x : Val)
+      pub set-same : (e : Value → Option Val) (f : ℕ → Option Val) → EnvRel e f → (v : Value) → KnownIds v → (x : Val)
           → EnvRel (put eqValue e v x) (put ℕ-discrete f (idOf F first T K v) x)
-      put-same e f r v k x w kw = by-case (eqValue w v)
+      set-same e f r v k x w kw = by-case (eqValue w v)
         where
           by-case : (d : Dec (w ≡ v)) → choose d (some x) (e w) ≡ choose (ℕ-discrete (idOf F first T K w) (idOf F first T K v)) (some x) (f (idOf F first T K w))
           by-case (yes p) = sym (choose-yes (ℕ-discrete (idOf F first T K w) (idOf F first T K v)) (some x) (f (idOf F first T K w)) (ap (idOf F first T K) p))
@@ -151,15 +151,15 @@ module _ (F : Func) (first : ℕ) (T K : Table) where
           → EnvRel (puts eqValue e ks xs) (puts ℕ-discrete f (map (idOf F first T K) ks) xs)
       puts-same [] xs e f r h = r
       puts-same (k ∷ ks) [] e f r h = r
-      puts-same (k ∷ ks) (x ∷ xs) e f r h = puts-same ks xs (put eqValue e k x) (put ℕ-discrete f (idOf F first T K k) x) (put-same e f r k (h .0) x) (h .1)
+      puts-same (k ∷ ks) (x ∷ xs) e f r h = puts-same ks xs (put eqValue e k x) (put ℕ-discrete f (idOf F first T K k) x) (set-same e f r k (h .0) x) (h .1)
 
-pub split-labels : (L a b : List ℕ) → All (λ x. ¬ (In x L)) a → All (λ x. In x L) b → (labelsIn L (a ++ b) ≡ b) × (othersIn L (a ++ b) ≡ a)
+pub split-labels : (L a b : List ℕ) → All (λ x. ¬ (In x L)) a → All (λ x. In x L) b → (labelsAmong L (a ++ b) ≡ b) × (othersIn L (a ++ b) ≡ a)
 split-labels L [] [] na nb = (refl, refl)
 split-labels L [] (y ∷ b) na nb =
     let r = split-labels L [] b tt (nb .1) in
     let w = within-yes y L (nb .0) in
-    (ap (λ (t : Bool). consIf t y (labelsIn L b)) w ∙ ap (λ (l : List ℕ). y ∷ l) (r .0), ap (λ (t : Bool). consIf (not t) y (othersIn L b)) w ∙ r .1)
+    (ap (λ (t : Bool). consIf t y (labelsAmong L b)) w ∙ ap (λ (l : List ℕ). y ∷ l) (r .0), ap (λ (t : Bool). consIf (not t) y (othersIn L b)) w ∙ r .1)
 split-labels L (x ∷ a) b na nb =
     let r = split-labels L a b (na .1) nb in
     let w = within-no x L (na .0) in
-    (ap (λ (t : Bool). consIf t x (labelsIn L (a ++ b))) w ∙ r .0, ap (λ (t : Bool). consIf (not t) x (othersIn L (a ++ b))) w ∙ ap (λ (l : List ℕ). x ∷ l) (r .1))
+    (ap (λ (t : Bool). consIf t x (labelsAmong L (a ++ b))) w ∙ r .0, ap (λ (t : Bool). consIf (not t) x (othersIn L (a ++ b))) w ∙ ap (λ (l : List ℕ). x ∷ l) (r .1))

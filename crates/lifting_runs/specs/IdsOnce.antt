@@ -58,10 +58,10 @@ gain-low (some d) k = omega arith
 absent-ops : (T : Table) (p : CfgPoint) (i : ℕ) → find eqPoint p T ≡ none → timesAt T p i ≡ 0
 absent-ops T p i h = ap (λ (o : Option BlockLifting). times ℕ-discrete i (blockOr o .ops)) h
 
-ops-fuse : (b t : CfgPoint) (c : BlockLifting) (i : ℕ) → ¬ (b ≡ t) → (T : Table) → Unique T → times ℕ-discrete i (opsOf (absorbInto b t c T)) + timesAt T t i ≡ times ℕ-discrete i (opsOf T) + gain (find eqPoint b T) (times ℕ-discrete i (c .ops))
+ops-absorb : (b t : CfgPoint) (c : BlockLifting) (i : ℕ) → ¬ (b ≡ t) → (T : Table) → Unique T → times ℕ-discrete i (opsOf (absorbInto b t c T)) + timesAt T t i ≡ times ℕ-discrete i (opsOf T) + gain (find eqPoint b T) (times ℕ-discrete i (c .ops))
 unfolding gain
-ops-fuse b t c i n [] u = refl
-ops-fuse b t c i n (x ∷ T) u = by-case (eqPoint b (x .0)) (eqPoint t (x .0)) (ops-fuse b t c i n T (u .1))
+ops-absorb b t c i n [] u = refl
+ops-absorb b t c i n (x ∷ T) u = by-case (eqPoint b (x .0)) (eqPoint t (x .0)) (ops-absorb b t c i n T (u .1))
   where
     K : ℕ
     K = times ℕ-discrete i (c .ops)
@@ -110,7 +110,7 @@ ops-after b t i T u = by-case (eqPoint b t)
   where
     by-case : Dec (b ≡ t) → times ℕ-discrete i (opsOf (absorbInto b t (blockAt T t) T)) ≤ times ℕ-discrete i (opsOf T)
     by-case (yes e) = subst (λ (p : CfgPoint). times ℕ-discrete i (opsOf (absorbInto p t (blockAt T t) T)) ≤ times ℕ-discrete i (opsOf T)) (sym e) (ops-self t (blockAt T t) i T)
-    by-case (no n) = omega (arith, ops-fuse b t (blockAt T t) i n T u, gain-low (find eqPoint b T) (times ℕ-discrete i (blockAt T t .ops)))
+    by-case (no n) = omega (arith, ops-absorb b t (blockAt T t) i n T u, gain-low (find eqPoint b T) (times ℕ-discrete i (blockAt T t .ops)))
 
 -- through all absorptions and the drop
 abbrev Fewer : Table → Table → Type 0
@@ -318,9 +318,9 @@ module _ (F : Func) (depth : ℕ) (tr : Tree F depth) (root0 : Root F 0) where
           (λ v a b. elim (in-split (phiKeys T) (opKeys F (kept T)) b) [ inl k ↦ param-phi v a k | inr r ↦ param-result v a r ])
 
       -- the kept points
-      fuse-points : (b t : CfgPoint) (c : BlockLifting) (U : Table) → points (absorbInto b t c U) ≡ points U
-      fuse-points b t c [] = refl
-      fuse-points b t c (x ∷ U) = ap (λ (l : List CfgPoint). x .0 ∷ l) (fuse-points b t c U)
+      absorb-points : (b t : CfgPoint) (c : BlockLifting) (U : Table) → points (absorbInto b t c U) ≡ points U
+      absorb-points b t c [] = refl
+      absorb-points b t c (x ∷ U) = ap (λ (l : List CfgPoint). x .0 ∷ l) (absorb-points b t c U)
 
       in-keep-points : (c : CfgPoint → ℕ) (U : Table) (p : CfgPoint) → In p (points (keep c U)) → In p (points U)
       in-keep-points c [] p h = h
@@ -340,7 +340,7 @@ module _ (F : Func) (depth : ℕ) (tr : Tree F depth) (root0 : Root F 0) where
 
       pub kept-points : NoDup (points (kept T))
       unfolding kept
-      kept-points = keep-points (absorb T .counts) (absorb T .table) (after-absorb (λ U. NoDup (points U)) (λ b t U h. rw (fuse-points b t (blockAt U t) U) h) T nd)
+      kept-points = keep-points (absorb T .counts) (absorb T .table) (after-absorb (λ U. NoDup (points U)) (λ b t U h. rw (absorb-points b t (blockAt U t) U) h) T nd)
 
       -- a value, a label and the function are different names
       value-inj : (v w : Value) → value v ≡ value w → v ≡ w

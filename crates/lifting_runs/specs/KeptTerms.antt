@@ -9,7 +9,7 @@ use Rattle.general_laws.specs.Lists.{choose, find}
 use Rattle.lifting.specs.Points.{BlockLifting, CfgPoint, Table, blockAt, eqPoint}
 use Rattle.lifting.specs.Absorb.{absorb, countIn, absorbInto, keep, keepIf, labels, refit, uses}
 use Rattle.general_laws.specs.Members.{All, In, here, in-cases, in-nil, there}
-use Rattle.lifting_runs.specs.AbsorbCount.{find-fuse, onSome, refit-keys}
+use Rattle.lifting_runs.specs.AbsorbCount.{find-absorb, onSome, refit-keys}
 use Rattle.lifting_runs.specs.Each.{after-absorb, each-absorbed}
 use Rattle.lifting_runs.specs.Terms.{TermLeads, nothing-ok, ok-leads}
 
@@ -54,14 +54,14 @@ module _ (T : Table) where
   abbrev Same : Table → Type 0
   Same U = (q : CfgPoint) → SameKeys (find eqPoint q U) (find eqPoint q T)
 
-  fuse-same : (b t : CfgPoint) (U : Table) → Same U → Same (absorbInto b t (blockAt U t) U)
-  fuse-same b t U s q = keys-trans (find eqPoint q (absorbInto b t (blockAt U t) U)) (find eqPoint q U) (find eqPoint q T)
-      (subst (λ (o : Option BlockLifting). SameKeys o (find eqPoint q U)) (sym (find-fuse b t (blockAt U t) U q)) (refit-same b t (blockAt U t) q (find eqPoint q U))) (s q)
+  absorb-same : (b t : CfgPoint) (U : Table) → Same U → Same (absorbInto b t (blockAt U t) U)
+  absorb-same b t U s q = keys-trans (find eqPoint q (absorbInto b t (blockAt U t) U)) (find eqPoint q U) (find eqPoint q T)
+      (subst (λ (o : Option BlockLifting). SameKeys o (find eqPoint q U)) (sym (find-absorb b t (blockAt U t) U q)) (refit-same b t (blockAt U t) q (find eqPoint q U))) (s q)
 
   pub absorb-shape : All (λ (x : CfgPoint × BlockLifting). TermLeads T (x .1 .term)) T → Shape T (absorb T .table)
   absorb-shape h = record {
     leads = each-absorbed (λ (b : BlockLifting). TermLeads T (b .term)) (ok-leads (nothing-ok T)) (λ b k. ok-leads (nothing-ok T)) (λ b c k l. l) T h;
-    same = after-absorb Same fuse-same T (λ q. keys-refl (find eqPoint q T));
+    same = after-absorb Same absorb-same T (λ q. keys-refl (find eqPoint q T));
   }
 
 -- what is kept

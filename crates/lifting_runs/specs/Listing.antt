@@ -17,7 +17,7 @@ use Rattle.lifting.specs.Parts.{opOf}
 use Rattle.lifting.specs.Points.{BlockLifting, CfgPoint, Merge, Table, Terminator, loopMerge, noMerge, selectionMerge}
 use Rattle.lifting.specs.Ids.{idOf, labelOf}
 use Rattle.lifting.specs.Instructions.{Instruction, blockInsts, bodyInsts, endInst, functionInst, instructions, labelInst, mergeInsts, opInst, opOpcode, paramInst, paramInsts, phiInst, phiInsts, termInst, termOpcode}
-use Rattle.lifting.specs.BlockRun.{Parts, addPart, consIf, isKind, isMerge, paramsIn, parts, phisOf, runOf}
+use Rattle.lifting.specs.BlockRun.{Parts, addPart, consIf, isKind, isMerge, paramIds, parts, phisOf, runOf}
 use Rattle.general_laws.specs.Members.{All, all-append, all-left, all-right, all-from, all-in}
 use Rattle.lifting_runs.specs.Accepted.{FreeKind, FreeOp}
 use Rattle.lifting_runs.specs.Simulation.{rest}
@@ -264,7 +264,7 @@ module _ (F : Func) (first : ℕ) (T K : Table) where
   unfolding paramInst
   params-inside = all-params Inside (λ d i. (refl, refl))
 
-  params-ids : (ds : List Decl) (i : ℕ) → paramsIn (paramInsts F first T K ds i ++ []) ≡ map (idOf F first T K) (tabulate (regionInput 0) i (length ds))
+  params-ids : (ds : List Decl) (i : ℕ) → paramIds (paramInsts F first T K ds i ++ []) ≡ map (idOf F first T K) (tabulate (regionInput 0) i (length ds))
   unfolding paramInsts
   params-ids [] i = refl
   params-ids (d ∷ ds) i = ap (λ (l : List ℕ). idOf F first T K (regionInput 0 i) ∷ l) (params-ids ds (suc i))
@@ -276,7 +276,7 @@ module _ (F : Func) (first : ℕ) (T K : Table) where
   unfolding functionInst
   function-part p = refl
 
-  function-params : (l : List Instruction) → paramsIn (functionInst F first T K ∷ l) ≡ paramsIn l
+  function-params : (l : List Instruction) → paramIds (functionInst F first T K ∷ l) ≡ paramIds l
   unfolding functionInst
   function-params l = refl
 
@@ -288,9 +288,9 @@ module _ (F : Func) (first : ℕ) (T K : Table) where
       function-part (parts (ps ++ rest)) ∙ ap function (parts-inside ps rest (params-inside (F .params) 0)
       ∙ ap (λ (p : Parts). record { before = ps ++ p .before; blocks = p .blocks }) (parts-blocks K h))
 
-  pub emit-params : AllFree K → paramsIn (parts (instructions F first T K) .before) ≡ map (idOf F first T K) (tabulate (regionInput 0) 0 (length (F .params)))
+  pub emit-params : AllFree K → paramIds (parts (instructions F first T K) .before) ≡ map (idOf F first T K) (tabulate (regionInput 0) 0 (length (F .params)))
   emit-params h =
-      ap (λ (p : Parts). paramsIn (p .before)) (emit-parts h) ∙ function-params (paramInsts F first T K (F .params) 0 ++ []) ∙ params-ids (F .params) 0
+      ap (λ (p : Parts). paramIds (p .before)) (emit-parts h) ∙ function-params (paramInsts F first T K (F .params) 0 ++ []) ∙ params-ids (F .params) 0
 
   pub emit-blocks : AllFree K → parts (instructions F first T K) .blocks ≡ blocksFor K
   emit-blocks h = ap (λ (p : Parts). p .blocks) (emit-parts h)

@@ -13,7 +13,7 @@ use Rattle.lifting.specs.Ast.{ControlInst, Func}
 use Rattle.lifting.specs.Parts.{ctrlOf}
 use Rattle.lifting.specs.Order.{Seen, roots, targetsOf, visit, visitIf, visits}
 use Rattle.lifting.specs.Walk.{top}
-use Rattle.lifting.specs.Absorb.{one}
+use Rattle.lifting.specs.Absorb.{countOne}
 use Rattle.general_laws.specs.Members.{In, NoDup, here, in-cases, in-nil, in-within, not-within, there, within-yes}
 use Rattle.lifting_runs.specs.Accepted.{Root, Targets}
 use Rattle.lifting_runs.specs.Places.{VisitedAt, at-body, by-ctrl}
@@ -113,11 +113,11 @@ module _ (F : Func) (tg : Targets F) where
       → Onward s (visits (λ t x. visit F k t x) ts s) × ((t : ℕ) → In t ts → In t (visits (λ t x. visit F k t x) ts s .seen))
   visits-all k vk [] s m h = (onward-refl s, λ t i. absurd (in-nil i))
   visits-all k vk (t ∷ ts) s m h =
-      let one = vk t s m (h t here .0) (h t here .1) in
+      let countOne = vk t s m (h t here .0) (h t here .1) in
       let u = visit F k t s in
-      let more = visits-all k vk ts u (omega (arith, missing-mono N (s .seen) (u .seen) (one .0 .grows))) (λ x i. h x (there i)) in (
-        onward-trans s u _ (one .0) (more .0),
-        λ x i. elim (in-cases i) [ inl e ↦ more .0 .grows x (subst (λ (z : ℕ). In z (u .seen)) (sym e) (one .1)) | inr j ↦ more .1 x j ],
+      let more = visits-all k vk ts u (omega (arith, missing-mono N (s .seen) (u .seen) (countOne .0 .grows))) (λ x i. h x (there i)) in (
+        onward-trans s u _ (countOne .0) (more .0),
+        λ x i. elim (in-cases i) [ inl e ↦ more .0 .grows x (subst (λ (z : ℕ). In z (u .seen)) (sym e) (countOne .1)) | inr j ↦ more .1 x j ],
       )
 
   targets-ok : (r : ℕ) → VisitedAt F r top → (o : Option ControlInst) → ctrlOf F r ≡ o → (t : ℕ) → In t (reverse (targetsOf o)) → (t < N) × Fit t

@@ -24,7 +24,7 @@ use Rattle.lifting.specs.Words.{words}
 use Rattle.lifting.specs.Answer.{denied, checked, formed, idsFit, valuesSet, Answer, listed, refused, written, lifted, answer}
 use Rattle.lifting_runs.specs.Accepted.{Accepted}
 use Rattle.lifting_runs.specs.Refers.{refers}
-use Rattle.lifting_runs.specs.Fits.{forest, targets, fitting, numbered}
+use Rattle.lifting_runs.specs.Fits.{forest, targets-fit, fitting, numbers-fit}
 use Rattle.lifting_runs.specs.Used.{settles}
 
 pub accepted-of : (F : Func) (first : ℕ) → hasBody (F .regions) ≡ true → referencesHold F ≡ true → isTree F ≡ true → countsAgree F ≡ true → controlFits F ≡ true → idsFit F first ≡ true → valuesSet F ≡ true → Accepted F first
@@ -33,14 +33,14 @@ accepted-of F first body references tree counts control fresh set =
     let trees = forest F ok tree in
     record {
       forest = trees .0;
-      targets = targets F ok body (trees .1) control;
+      targets = targets-fit F ok body (trees .1) control;
       fitting = fitting F ok counts control;
-      numbered = numbered F first ok fresh;
+      numbered = numbers-fit F first ok fresh;
       settles = settles F ok set;
     }
 
 -- What an answer with a list says of the text: it has the function F, which passes every refusal, and the list and the next free id are F's.
-pub record Passed (text : List ℕ) (first out : ℕ) (F : Func) (ws : List ℕ) (next : ℕ) : Type 0 where
+pub record ListPassed (text : List ℕ) (first out : ℕ) (F : Func) (ws : List ℕ) (next : ℕ) : Type 0 where
   pub text-is : read text ≡ some F
   pub limits : withinLimits F ≡ true
   pub references : referencesHold F ≡ true
@@ -62,7 +62,7 @@ true-before f refusal told ws next false x n e = absurd (let z : _≡_ {A = ℕ}
 same-list : (vs ws : List ℕ) (last next : ℕ) → listed vs last ≡ listed ws next → (ws ≡ vs) × (next ≡ last)
 same-list vs ws last next e = (cc, cc)
 
-func-passes : (text : List ℕ) (first out : ℕ) (ws : List ℕ) (next : ℕ) (F : Func) → read text ≡ some F → lifted (checked F) first out ≡ listed ws next → Passed text first out F ws next
+func-passes : (text : List ℕ) (first out : ℕ) (ws : List ℕ) (next : ℕ) (F : Func) → read text ≡ some F → lifted (checked F) first out ≡ listed ws next → ListPassed text first out F ws next
 unfolding checked lifted written
 func-passes text first out ws next F q e =
     let early = true-before (λ p. lifted p first out) denied (λ n. refl) ws next in
@@ -92,7 +92,7 @@ func-passes text first out ws next F q e =
       room = subst (λ (vs : List ℕ). length vs ≤ out) (sym (same .0)) (leb-true (length (words (listOf F first))) out (room .0));
     }
 
-pub answer-passes : (text : List ℕ) (first func work out : ℕ) (ws : List ℕ) (next : ℕ) → answer text first func work out ≡ listed ws next → (F : Func) × Passed text first out F ws next
+pub answer-passes : (text : List ℕ) (first func work out : ℕ) (ws : List ℕ) (next : ℕ) → answer text first func work out ≡ listed ws next → (F : Func) × ListPassed text first out F ws next
 unfolding answer
 answer-passes text first func work out ws next e =
     let early = true-before (λ p. lifted p first out) denied (λ n. refl) ws next in
@@ -100,6 +100,6 @@ answer-passes text first func work out ws next e =
     let short = early (leb (length text) maxBytes) _ 1 (lent .1) in
     by-case (read text) refl (short .1)
   where
-    by-case : (o : Option Func) → read text ≡ o → lifted (formed o) first out ≡ listed ws next → (F : Func) × Passed text first out F ws next
+    by-case : (o : Option Func) → read text ≡ o → lifted (formed o) first out ≡ listed ws next → (F : Func) × ListPassed text first out F ws next
     by-case none q e = absurd (let z : _≡_ {A = ℕ} 0 1 = cc in omega arith)
     by-case (some F) q e = (F, func-passes text first out ws next F q e)

@@ -23,11 +23,31 @@ use Rattle.general_laws.specs.Tests.{both, every-all, all-at, all-split, all-li
 abbrev pub Named : Func → Value → Type 0
 Named F v = named F v ≡ true
 
+-- what holds of every value of a text holds of those of each line
+pub record Uses (P : Value → Type 0) (F : Func) : Type 0 where
+  pub outs : (r : ℕ) → All P (regionOf F r .outs)
+  pub node : (n : ℕ) → All P (nodeValues (nodeOf F n))
+  pub operands : (i : ℕ) → All P (opOf F i .operands)
+  pub ctrl : (r : ℕ) {c : ControlInst} → ctrlOf F r ≡ some c → All P (ctrlValues (r, c))
+
+pub uses : (P : Value → Type 0) (F : Func) → All P (values F) → Uses P F
+unfolding values
+uses P F h =
+    let outs-of : Region → List Value = λ r. r .outs in
+    let operands-of : Op → List Value = λ o. o .operands in
+    let from-outs = all-split P (gather outs-of (F .regions)) _ h in
+    let from-nodes = all-split P (gather nodeValues (F .nodes)) _ (from-outs .1) in
+    let from-ops = all-split P (gather operands-of (F .ops)) (gather ctrlValues (F .ctrls)) (from-nodes .1) in
+    record {
+      outs = all-line P outs-of (F .regions) (from-outs .0) _ refl;
+      node = all-line P nodeValues (F .nodes) (from-nodes .0) _ refl;
+      operands = all-line P operands-of (F .ops) (from-ops .0) _ refl;
+      ctrl = all-entry ℕ-discrete P ctrlValues (F .ctrls) (from-ops .1);
+    }
+
 pub record Refers (F : Func) : Type 0 where
-  pub outs-named : (r : ℕ) → All (Named F) (regionOf F r .outs)
-  pub node-named : (n : ℕ) → All (Named F) (nodeValues (nodeOf F n))
-  pub operands-named : (i : ℕ) → All (Named F) (opOf F i .operands)
-  pub ctrl-named : (r : ℕ) {c : ControlInst} → ctrlOf F r ≡ some c → All (Named F) (ctrlValues (r, c))
+  pub all-named : All (Named F) (values F)
+  pub named : Uses (Named F) F
   pub nodes-below : All (λ n. n < length (F .nodes)) (nodeList F)
   pub ops-below : All (λ i. i < length (F .ops)) (opList F)
   pub children-below : (n : ℕ) → All (λ r. r < length (F .regions)) (childrenOf (nodeOf F n))
@@ -54,20 +74,14 @@ refers F e =
     let regions-named = both _ _ (ids-given .0) in
     let ops-named = both _ _ (regions-named .0) in
     let nodes-named = both _ _ (ops-named .0) in
-    let outs-of : Region → List Value = λ r. r .outs in
-    let operands-of : Op → List Value = λ o. o .operands in
+    let all-values : All (Named F) (values F) = every-all (named F) (Named F) (λ v t. t) (values F) (nodes-named .0) in
     let op-insts : Op → List Inst = λ o. opInsts (o .kind) in
-    let from-outs = all-split (Named F) (gather outs-of (F .regions)) _ (every-all (named F) (Named F) (λ v t. t) (values F) (nodes-named .0)) in
-    let from-nodes = all-split (Named F) (gather nodeValues (F .nodes)) _ (from-outs .1) in
-    let from-ops = all-split (Named F) (gather operands-of (F .ops)) (gather ctrlValues (F .ctrls)) (from-nodes .1) in
     let regions-below = all-split (λ r. r < length (F .regions)) (childList F) (ctrlRegions F) (every-all _ _ (λ r t. ltb-true r (length (F .regions)) t) (childList F ++ ctrlRegions F) (regions-named .1)) in
     let of-nodes = all-split FreeInst (gather nodeInsts (F .nodes)) _ (every-all instFits FreeInst inst-free (insts F) (insts-fit .1)) in
     let of-ops = all-split FreeInst (gather op-insts (F .ops)) _ (of-nodes .1) in
     record {
-      outs-named = all-line (Named F) outs-of (F .regions) (from-outs .0) _ refl;
-      node-named = all-line (Named F) nodeValues (F .nodes) (from-nodes .0) _ refl;
-      operands-named = all-line (Named F) operands-of (F .ops) (from-ops .0) _ refl;
-      ctrl-named = all-entry ℕ-discrete (Named F) ctrlValues (F .ctrls) (from-ops .1);
+      all-named = all-values;
+      named = uses (Named F) F all-values;
       nodes-below = every-all _ _ (λ n t. ltb-true n (length (F .nodes)) t) (nodeList F) (nodes-named .1);
       ops-below = every-all _ _ (λ i t. ltb-true i (length (F .ops)) t) (opList F) (ops-named .1);
       children-below = all-line _ childrenOf (F .nodes) (regions-below .0) _ refl;

@@ -43,7 +43,7 @@ pub shaped-checked : (F : Func) → hasBody (F .regions) ≡ true → references
 shaped-checked F body references tree counts control =
     let ok = refers F references in
     let trees = Fits.forest F ok tree in
-    record { body = body; forest = trees .0; targets = Fits.targets F ok body (trees .1) control; fitting = Fits.fitting F ok counts control }
+    record { body = body; forest = trees .0; targets = Fits.targets-fit F ok body (trees .1) control; fitting = Fits.fitting F ok counts control }
 
 module _ (F : Func) (ok : Shaped F) where
   abbrev pub depth : ℕ
@@ -100,5 +100,5 @@ module _ (F : Func) (ok : Shaped F) where
   terms = all-right _ _ (walkOf F) walked
 
   -- what leads to the exit of an exit node or of a case that ends in one
-  pub behind : All (Behind F) (walkOf F)
-  behind = subst (All (Behind F)) walk-is (walk-behind F (ok .forest .child-once) depth (roots F) (roots-visited F (ok .targets)))
+  pub behind-exits : All (Behind F) (walkOf F)
+  behind-exits = subst (All (Behind F)) walk-is (walk-behind F (ok .forest .child-once) depth (roots F) (roots-visited F (ok .targets)))

@@ -3,7 +3,7 @@
 use mathlib.Core.Path.{_≡_, refl, sym, ap, _∙_}
 use Prim.Native.Nat.{ℕ, zero, suc, _≤_}
 use native.Mathlib.Omega.{arith}
-use Rattle.lifting.specs.Machine.{Alike, Ends, Out, Reaches, after, go, halt, onward}
+use Rattle.lifting.specs.Machine.{Alike, Ends, Out, Reaches, stateAfter, go, halt, onward}
 
 module _ {S H L : Type 0} (step : S → Out S H) (log : S → L) where
   -- steps that leave the log alone
@@ -11,18 +11,18 @@ module _ {S H L : Type 0} (step : S → Out S H) (log : S → L) where
     rest : {s : S} → Quiet s s
     tick : {s t u : S} → step s ≡ go t → log t ≡ log s → Quiet t u → Quiet s u
 
-  pub after-go : (k : ℕ) {s t : S} → step s ≡ go t → after step (suc k) s ≡ after step k t
-  after-go k {s} {t} e = ap (λ (o : Out S H). after step k (onward o s)) e
+  pub after-go : (k : ℕ) {s t : S} → step s ≡ go t → stateAfter step (suc k) s ≡ stateAfter step k t
+  after-go k {s} {t} e = ap (λ (o : Out S H). stateAfter step k (onward o s)) e
 
-  pub after-halt : (k : ℕ) {s : S} {h : H} → step s ≡ halt h → after step k s ≡ s
+  pub after-halt : (k : ℕ) {s : S} {h : H} → step s ≡ halt h → stateAfter step k s ≡ s
   after-halt zero e = refl
-  after-halt (suc k) {s} e = ap (λ (o : Out S H). after step k (onward o s)) e ∙ after-halt k e
+  after-halt (suc k) {s} e = ap (λ (o : Out S H). stateAfter step k (onward o s)) e ∙ after-halt k e
 
   pub quiet-log : {s t : S} → Quiet s t → log t ≡ log s
   quiet-log rest = refl
   quiet-log (tick e l q) = quiet-log q ∙ l
 
-  pub quiet-after : {s t : S} → Quiet s t → (j : ℕ) → (k : ℕ) × (after step k s ≡ after step j t)
+  pub quiet-after : {s t : S} → Quiet s t → (j : ℕ) → (k : ℕ) × (stateAfter step k s ≡ stateAfter step j t)
   quiet-after rest j = (j, refl)
   quiet-after (tick e l q) j = let r = quiet-after q j in (suc (r .0), after-go (r .0) e ∙ r .1)
 
@@ -57,8 +57,8 @@ halt-inj e = cc
 module _ {S T H L : Type 0} (stepS : S → Out S H) (logS : S → L) (stepT : T → Out T H) (logT : T → L) (R : S → T → Type 0) where
   reach-by-quiet : {s s-next : S} {t t-next : T} (k : ℕ) → Quiet stepS logS s s-next → Quiet stepT logT t t-next → logS s ≡ logT t
       → Meet stepS logS stepT logT R s-next t-next
-      → ((m : ℕ) → suc m ≤ k → (a : S) (b : T) → R a b → Reaches stepT logT b (logS (after stepS m a)))
-      → Reaches stepT logT t (logS (after stepS k s))
+      → ((m : ℕ) → suc m ≤ k → (a : S) (b : T) → R a b → Reaches stepT logT b (logS (stateAfter stepS m a)))
+      → Reaches stepT logT t (logS (stateAfter stepS k s))
   reach-by-quiet zero q r l m ih = (0, sym l)
   reach-by-quiet {t} (suc k) rest r l (both-go a b e f ab) ih =
       let w = ih k (omega arith) a b ab in
@@ -71,10 +71,10 @@ module _ {S T H L : Type 0} (stepS : S → Out S H) (logS : S → L) (stepT : T 
 
   end-by-quiet : {s s-next : S} {t t-next : T} (h : H) (k : ℕ) → Quiet stepS logS s s-next → Quiet stepT logT t t-next → logS s ≡ logT t
       → Meet stepS logS stepT logT R s-next t-next
-      → ((m : ℕ) → suc m ≤ k → (a : S) (b : T) → R a b → stepS (after stepS m a) ≡ halt h
-      → Ends stepT logT b h (logS (after stepS m a)))
-      → stepS (after stepS k s) ≡ halt h
-      → Ends stepT logT t h (logS (after stepS k s))
+      → ((m : ℕ) → suc m ≤ k → (a : S) (b : T) → R a b → stepS (stateAfter stepS m a) ≡ halt h
+      → Ends stepT logT b h (logS (stateAfter stepS m a)))
+      → stepS (stateAfter stepS k s) ≡ halt h
+      → Ends stepT logT t h (logS (stateAfter stepS k s))
   end-by-quiet h zero rest r l (both-go a b e f ab) ih x = absurd (go-halt (sym e ∙ x))
   end-by-quiet h (suc k) rest r l (both-go a b e f ab) ih x =
       let w = ih k (omega arith) a b ab (ap stepS (sym (after-go stepS logS k e)) ∙ x) in
@@ -91,7 +91,7 @@ module _ {S T H L : Type 0} (stepS : S → Out S H) (logS : S → L) (stepT : T 
       (w .0, w .1, w .2 ∙ ap logS (sym (after-go stepS logS k e)))
 
   module _ (sim : Simulation stepS logS stepT logT R) where
-    reach-n : (n k : ℕ) → k ≤ n → (s : S) (t : T) → R s t → Reaches stepT logT t (logS (after stepS k s))
+    reach-n : (n k : ℕ) → k ≤ n → (s : S) (t : T) → R s t → Reaches stepT logT t (logS (stateAfter stepS k s))
     reach-n zero k h s t r =
         let m = sim .macro r in
         reach-by-quiet k (m .quiet-left) (m .quiet-right) (sim .same-log r) (m .meet) (λ m c. absurd (omega arith))
@@ -99,8 +99,8 @@ module _ {S T H L : Type 0} (stepS : S → Out S H) (logS : S → L) (stepT : T 
         let m = sim .macro r in
         reach-by-quiet k (m .quiet-left) (m .quiet-right) (sim .same-log r) (m .meet) (λ m c. reach-n n m (omega arith))
 
-    end-n : (h : H) (n k : ℕ) → k ≤ n → (s : S) (t : T) → R s t → stepS (after stepS k s) ≡ halt h
-        → Ends stepT logT t h (logS (after stepS k s))
+    end-n : (h : H) (n k : ℕ) → k ≤ n → (s : S) (t : T) → R s t → stepS (stateAfter stepS k s) ≡ halt h
+        → Ends stepT logT t h (logS (stateAfter stepS k s))
     end-n h zero k b s t r =
         let m = sim .macro r in
         end-by-quiet h k (m .quiet-left) (m .quiet-right) (sim .same-log r) (m .meet) (λ m c. absurd (omega arith))

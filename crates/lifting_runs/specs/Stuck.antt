@@ -8,7 +8,7 @@ use lib.ListN.{getD, length}
 use Rattle.lifting.specs.Ast.{ControlInst, ControlInstKind, Func, Node, Value, block, branch, exit, exitInvocation, loop, return, select, selectBranch, unreachable}
 use Rattle.lifting.specs.Parts.{ctrlOf, nodeOf, opOf, outKeys, regionOf, valsFor}
 use Rattle.lifting.specs.Points.{BlockLifting, CfgPoint, Terminator, regionEntry}
-use Rattle.lifting.specs.Machine.{Ends, Out, after, go, halt, onward}
+use Rattle.lifting.specs.Machine.{Ends, Out, stateAfter, go, halt, onward}
 use Rattle.lifting.specs.World.{End, Executed, Mem, World, dead, exited, pick, reading, reads, returned, stuck, truths, unset}
 use Rattle.lifting.specs.RegionRun.{RegionState, Task, again, close, doLeave, doNode, doTasks, enter, leave, leaveBy, node, op, regionLog, regionStart, regionStep}
 use Rattle.lifting_runs.specs.PointRun.{PointState, doOps, edge, jump, pointLog, pointStart, pointStep, pointWay}
@@ -35,12 +35,12 @@ module _ {Val S L : Type 0} (step : S → Out S (End Val)) (log : S → L) (Fine
   onward-fine s (go t) h w = w
   onward-fine s (halt e) h w = h
 
-  after-fine : (k : ℕ) (s : S) → Fine s → Fine (after step k s)
+  after-fine : (k : ℕ) (s : S) → Fine s → Fine (stateAfter step k s)
   after-fine zero s h = h
   after-fine (suc k) s h = after-fine k (onward (step s) s) (onward-fine s (step s) h (well s h))
 
   not-stuck : (s : S) → Fine s → (l : L) → Ends step log s stuck l → ⊥
-  not-stuck s h l x = subst (Well Fine) (x .1) (well (after step (x .0) s) (after-fine (x .0) s h))
+  not-stuck s h l x = subst (Well Fine) (x .1) (well (stateAfter step (x .0) s) (after-fine (x .0) s h))
 
 -- what is to do ends with the end of a root
 data Rooted : List Task → Type 0 where

@@ -18,21 +18,21 @@ use Rattle.lifting.specs.Walk.{inBlock, walkOf}
 use Rattle.lifting.specs.Absorb.{countIn, kept, useCount}
 use Rattle.lifting.specs.Ids.{idOf, labelOf, phiKeys}
 use Rattle.lifting.specs.Instructions.{Instruction, bare, blockInsts, ifUsed, labelInst, loopControl, mergeInsts, opImms, opInst, pairs, phiInst, phiInsts, selectionControl, short, termImms, termInst}
-use Rattle.lifting.specs.Words.{immWords, instWords, words}
+use Rattle.lifting.specs.Words.{immsWords, instWords, words}
 use Rattle.general_laws.specs.Members.{All, In, all-in}
 use Rattle.lifting_runs.specs.Pairs.{counted-in}
 use Rattle.lifting_runs.specs.Tour.{find-unique, unique-of}
 use Rattle.lifting_runs.specs.Terms.{TermOk}
 use Rattle.lifting_runs.specs.Shaped.{Shaped, walk-once}
-use Rattle.lifting_blocks.specs.Chain.{chain-all, some-same}
+use Rattle.lifting_blocks.specs.Chain.{chain-all, some-injective}
 use Rattle.lifting_blocks.specs.Steps.{Step, step-entry, step-exit, step-in, step-out, walk-steps}
 use Rattle.lifting_blocks.specs.Gathered.{words-gather}
-use Rattle.lifting_blocks.specs.Flat.{Pass, Status, absorbsHere, goes, gone, noPair, part, partAt, starts, statusAt, unlessAbsorbs, upTo}
+use Rattle.lifting_blocks.specs.Flat.{Pass, Status, absorbsHere, goes, gone, noPair, passPart, partAt, starts, statusAt, unlessAbsorbs, upTo}
 use Rattle.lifting_blocks.specs.ListFlat.{pairing, writing}
 use Rattle.lifting_blocks.specs.Totals.{total, total-add}
 use Rattle.lifting_blocks.specs.Laws
 use Rattle.lifting_sizes.specs.Sums.{length-gather, total-append, total-le, total-map, total-ones, total-scale, total-swap, total-upTo}
-use Rattle.lifting_sizes.specs.Weights.{blockWeight, carried, defaultsAt, endWeight, flow, head, ifAny, imm, immTotal, initsOf, mergeWeight, opWeight, opsWeight, sent}
+use Rattle.lifting_sizes.specs.Weights.{blockWeight, carried, defaultsAt, endWeight, flow, head, ifAny, immWeight, immTotal, initsOf, mergeWeight, opWeight, opsWeight, sent}
 
 -- A pass over kept blocks, where each end weighs at most e if P holds of its way out.
 module _ {A : Type 0} (wt : A → ℕ) (m : Pass A) (P : Terminator → Type 0) (e : Terminator → ℕ) (ends : (h : CfgPoint) (t : Terminator) → P t → total wt (m .end h t) ≤ e t) where
@@ -45,8 +45,8 @@ module _ {A : Type 0} (wt : A → ℕ) (m : Pass A) (P : Terminator → Type 0) 
   end-weight true h t p = omega arith
   end-weight false h t p = ends h t p
 
-  part-weight : (s : Status) (g : Bool) (x : CfgPoint × BlockLifting) → (¬ (s ≡ gone) → P (x .1 .term)) → total wt (part m s g x) ≤ partWeight x
-  unfolding part
+  part-weight : (s : Status) (g : Bool) (x : CfgPoint × BlockLifting) → (¬ (s ≡ gone) → P (x .1 .term)) → total wt (passPart m s g x) ≤ partWeight x
+  unfolding passPart
   part-weight gone g x p = omega arith
   part-weight starts g x p = omega (
     arith,
@@ -66,7 +66,7 @@ module _ {A : Type 0} (wt : A → ℕ) (m : Pass A) (P : Terminator → Type 0) 
   )
 
 -- the words of immediates, of a list and of an instruction
-length-imms : (l : List Imm) → length (immWords l) ≡ imm * length l
+length-imms : (l : List Imm) → length (immsWords l) ≡ immWeight * length l
 length-imms [] = refl
 length-imms (m ∷ l) = omega (arith, length-imms l)
 
@@ -76,9 +76,9 @@ instWeight i = length (instWords i)
 pub length-words : (l : List Instruction) → length (words l) ≡ total instWeight l
 length-words l = ap length (words-gather l) ∙ length-gather instWords l
 
-pub length-inst : (i : Instruction) → instWeight i ≡ head + (imm * length (i .imms) + length (i .ids))
+pub length-inst : (i : Instruction) → instWeight i ≡ head + (immWeight * length (i .imms) + length (i .ids))
 unfolding instWords
-length-inst i = omega (arith, length-append (immWords (i .imms)) (length (i .ids) ∷ i .ids), length-imms (i .imms))
+length-inst i = omega (arith, length-append (immsWords (i .imms)) (length (i .ids) ∷ i .ids), length-imms (i .imms))
 
 -- the immediates of a way out are those of its INST
 length-term : (k : ControlInstKind) → length (termImms k) ≡ immTotal (ctrlInsts k)
@@ -90,7 +90,7 @@ length-term (selectBranch (spvInst i)) = omega arith
 length-term (exitInvocation i) = omega arith
 
 -- an op's callee and literal
-length-kind : (k : DataInstKind) → imm * length (opImms k) + length (calleeIds k) ≤ (imm + 1) + imm * immTotal (opInsts k)
+length-kind : (k : DataInstKind) → immWeight * length (opImms k) + length (calleeIds k) ≤ (immWeight + 1) + immWeight * immTotal (opInsts k)
 length-kind (inst i) = omega arith
 length-kind (call f) = omega arith
 length-kind (ext s n) = omega arith
@@ -130,7 +130,7 @@ module _ (F : Func) (ok : Shaped F) (first : ℕ) where
     enough : (t : Terminator) → TermOk T t → 0 < countIn q (t .targets) → length (x .1 .keys) ≡ length (valsOr (find eqPoint q (t .vals)) (defaultsAt F q))
     enough t tk l =
         let w = tk .to q (counted-in q (t .targets) l) in
-        let b : x .1 ≡ w .0 = some-same (sym (w .1) ∙ find-unique T (unique-of T (walk-once F ok)) q (x .1) here) in
+        let b : x .1 ≡ w .0 = some-injective (sym (w .1) ∙ find-unique T (unique-of T (walk-once F ok)) q (x .1) here) in
         omega (
           arith,
           ap (λ (b : BlockLifting). length (b .keys)) b,

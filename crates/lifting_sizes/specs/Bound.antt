@@ -27,7 +27,7 @@ use Rattle.lifting_runs.specs.Refers.{Refers, refers}
 use Rattle.lifting_runs.specs.Shaped.{Shaped, shaped-checked}
 use Rattle.lifting_blocks.specs.Totals.{total}
 use Rattle.lifting_sizes.specs.Sums.{total-append}
-use Rattle.lifting_sizes.specs.Weights.{head, imm, linesWeight, maxWords}
+use Rattle.lifting_sizes.specs.Weights.{head, immWeight, linesWeight, maxWords}
 use Rattle.lifting_sizes.specs.BlockWeights.{blocks-weight, instWeight, length-inst, length-words}
 use Rattle.lifting_sizes.specs.Flow.{points-weight}
 use Rattle.lifting_sizes.specs.Lines.{phi-lines, points-lines}
@@ -46,7 +46,7 @@ module _ (F : Func) (first : ℕ) where
   params-weight [] i = refl
   params-weight (d ∷ ds) i = omega (arith, length-inst (paramInst F first T K d i), params-weight ds (suc i))
 
-  list-weight : length (words (listOf F first)) ≡ ((head + imm + 1) + head) + (head * length (F .params) + total instWeight (blockInsts F first T K K))
+  list-weight : length (words (listOf F first)) ≡ ((head + immWeight + 1) + head) + (head * length (F .params) + total instWeight (blockInsts F first T K K))
   unfolding listOf instructions functionInst
   list-weight = omega (
     arith,
@@ -70,7 +70,7 @@ module _ (F : Func) (first : ℕ) where
       (ap (λ (b : Bool). elim b as (λ (c : Bool). Table) [ true ↦ walkRoots F (suc (length (F .regions))) (roots F) | false ↦ [] ]) e)
 
   -- the limits of refusal 3
-  limits-weight : withinLimits F ≡ true → ((head + imm + 1) + head) + (head * length (F .params) + (head * length (decls F) + linesWeight F)) ≤ maxWords
+  limits-weight : withinLimits F ≡ true → ((head + immWeight + 1) + head) + (head * length (F .params) + (head * length (decls F) + linesWeight F)) ≤ maxWords
   unfolding withinLimits
   limits-weight e =
       let i = both _ (leb (length (targets F)) maxTargets) e in

@@ -18,8 +18,8 @@ use Rattle.general_laws.specs.Members.{In, here, in-cases, in-nil, map-in, ther
 use Rattle.lifting_runs.specs.Pairs.{counted-in}
 use Rattle.lifting_runs.specs.Places.{VisitedAt}
 use Rattle.lifting_runs.specs.Shaped.{Shaped, walk-once}
-use Rattle.lifting_blocks.specs.Chain.{Chain, firstOf}
-use Rattle.lifting_blocks.specs.Steps.{Step, placed, step-entry, step-exit, step-in, step-out, walk-steps}
+use Rattle.lifting_blocks.specs.Chain.{Chain, firstInTable}
+use Rattle.lifting_blocks.specs.Steps.{Step, placed-as, step-entry, step-exit, step-in, step-out, walk-steps}
 use Rattle.lifting_blocks.specs.Totals.{total, total-once}
 use Rattle.lifting_sizes.specs.Sums.{total-find, total-keys, total-le, total-map, weighed}
 use Rattle.lifting_sizes.specs.Weights.{carried, ctrlWeight, defaultsAt, endWeight, flow, head, ifAny, initsOf, nodeWeight, opsWeight, pointWeight, sent, weightAt}
@@ -27,9 +27,9 @@ use Rattle.lifting_sizes.specs.Weights.{carried, ctrlWeight, defaultsAt,
 -- Sums along a chain: where f of each entry is at most g of it and a of the next point, all f are at most all g and all a.
 module _ (P : CfgPoint × BlockLifting → Option CfgPoint → Type 0) (f : CfgPoint × BlockLifting → ℕ) (g a : CfgPoint → ℕ) where
   chain-total : (T : Table) (o : Option CfgPoint) → ((x : CfgPoint × BlockLifting) (q : Option CfgPoint) → In x T → P x q → f x ≤ g (x .0) + weighed a q) → Chain P T o
-      → total f T + weighed a (firstOf T o) ≤ total (λ x. g (x .0) + a (x .0)) T + weighed a o
+      → total f T + weighed a (firstInTable T o) ≤ total (λ x. g (x .0) + a (x .0)) T + weighed a o
   chain-total [] o h c = omega arith
-  chain-total (x ∷ T) o h c = omega (arith, h x (firstOf T o) here (c .0), chain-total T o (λ y q i. h y q (there i)) (c .1))
+  chain-total (x ∷ T) o h c = omega (arith, h x (firstInTable T o) here (c .0), chain-total T o (λ y q i. h y q (there i)) (c .1))
 
 -- an entry for some values, found or not
 module _ (p q : CfgPoint) where
@@ -153,7 +153,7 @@ module _ (F : Func) (ok : Shaped F) where
   -- at any region's exit
   exit-weight : (r : ℕ) (p : Place) → VisitedAt F r p → endWeight (exitTerm F r p) + 2 * flow F (exitTerm F r p) ≤ weightAt F (regionExit r)
   exit-weight r top v = omega (arith, root-weight (ctrlOf F r) r)
-  exit-weight r (inNode n) v = omega (arith, child-weight r n (nodeOf F n) refl (placed F (ok .targets) v))
+  exit-weight r (inNode n) v = omega (arith, child-weight r n (nodeOf F n) refl (placed-as F (ok .targets) v))
 
   -- at each visited point, with what it sends to the next one
   step-weight : (x : CfgPoint × BlockLifting) (o : Option CfgPoint) → Step F x o → sent F x ≤ ((head + head) + weightAt F (x .0)) + weighed (λ p. 2 * length (defaultsAt F p)) o

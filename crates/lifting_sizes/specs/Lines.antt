@@ -27,7 +27,7 @@ use Rattle.lifting_blocks.specs.Steps.{Step, step-entry, step-exit, step-in, st
 use Rattle.lifting_blocks.specs.Kept.{point-block}
 use Rattle.lifting_blocks.specs.Totals.{total, total-add, total-none}
 use Rattle.lifting_sizes.specs.Sums.{length-gather, total-append, total-find, total-gather, total-le, total-lines, total-map, total-ones, total-plus, total-scale, total-within, weighed}
-use Rattle.lifting_sizes.specs.Weights.{ctrlWeight, imm, immTotal, initsOf, linesWeight, opWeight, opsWeight, pointWeight, readAt}
+use Rattle.lifting_sizes.specs.Weights.{ctrlWeight, immWeight, immTotal, initsOf, linesWeight, opWeight, opsWeight, pointWeight, readAt}
 
 -- the numbers below n, each once
 in-below : (n i : ℕ) → i < n → In i (below n)
@@ -85,7 +85,7 @@ module _ (F : Func) where
       )
 
   -- ctrl lines
-  ctrl-lines : total (λ c. ctrlWeight (c .1)) (F .ctrls) ≤ imm * total (λ c. immTotal (ctrlInsts (c .1 .kind))) (F .ctrls) + (2 * total (λ c. length (ctrlValues c)) (F .ctrls) + length (targets F))
+  ctrl-lines : total (λ c. ctrlWeight (c .1)) (F .ctrls) ≤ immWeight * total (λ c. immTotal (ctrlInsts (c .1 .kind))) (F .ctrls) + (2 * total (λ c. length (ctrlValues c)) (F .ctrls) + length (targets F))
   unfolding targets
   ctrl-lines =
       let imms : ℕ × ControlInst → ℕ = λ c. immTotal (ctrlInsts (c .1 .kind)) in
@@ -93,11 +93,11 @@ module _ (F : Func) where
       let to : ℕ × ControlInst → ℕ = λ c. length (c .1 .to) in
       omega (
         arith,
-        total-le (λ (c : ℕ × ControlInst). ctrlWeight (c .1)) (λ c. imm * imms c + (2 * vals c + to c)) (F .ctrls)
+        total-le (λ (c : ℕ × ControlInst). ctrlWeight (c .1)) (λ c. immWeight * imms c + (2 * vals c + to c)) (F .ctrls)
             (λ c i. omega (arith, length-append (c .1 .ins) (gather (λ e. e .1) (c .1 .vals)), length-gather (λ (e : ℕ × List Value). e .1) (c .1 .vals))),
-        total-add (λ c. imm * imms c) (λ c. 2 * vals c + to c) (F .ctrls),
+        total-add (λ c. immWeight * imms c) (λ c. 2 * vals c + to c) (F .ctrls),
         total-add (λ c. 2 * vals c) to (F .ctrls),
-        total-scale imm imms (F .ctrls),
+        total-scale immWeight imms (F .ctrls),
         total-scale 2 vals (F .ctrls),
         length-gather (λ (c : ℕ × ControlInst). c .1 .to) (F .ctrls),
       )
@@ -131,7 +131,7 @@ module _ (F : Func) where
   node-values (exit i vs) = omega arith
 
   node-lines : total (λ n. pointWeight F (nodeEntry n)) (below (length (F .nodes))) + total (λ n. pointWeight F (nodeExit n)) (below (length (F .nodes)))
-      ≤ 37 * length (F .nodes) + (length (childList F) + (imm * total (λ d. immTotal (nodeInsts d)) (F .nodes) + (2 * total (λ d. length (nodeValues d)) (F .nodes) + opsWeight F (opList F))))
+      ≤ 37 * length (F .nodes) + (length (childList F) + (immWeight * total (λ d. immTotal (nodeInsts d)) (F .nodes) + (2 * total (λ d. length (nodeValues d)) (F .nodes) + opsWeight F (opList F))))
   unfolding childList opList
   node-lines =
       let l : List ℕ = below (length (F .nodes)) in
@@ -139,18 +139,18 @@ module _ (F : Func) where
       let imms : Node → ℕ = λ d. immTotal (nodeInsts d) in
       let vals : Node → ℕ = λ d. length (nodeValues d) in
       let ops : Node → ℕ = λ d. opsWeight F (blockOps d) in
-      let line : Node → ℕ = λ d. 24 + (kids d + (imm * imms d + (2 * vals d + ops d))) in
+      let line : Node → ℕ = λ d. 24 + (kids d + (immWeight * imms d + (2 * vals d + ops d))) in
       omega (
         arith,
         total-plus 13 (λ n. 0) l,
         total-none l,
         total-le (λ n. pointWeight F (nodeEntry n)) (λ n. line (nodeOf F n)) l (λ n i. omega (arith, node-values (nodeOf F n))),
         total-lines line (F .nodes) (block []),
-        total-plus 24 (λ d. kids d + (imm * imms d + (2 * vals d + ops d))) (F .nodes),
-        total-add kids (λ d. imm * imms d + (2 * vals d + ops d)) (F .nodes),
-        total-add (λ d. imm * imms d) (λ d. 2 * vals d + ops d) (F .nodes),
+        total-plus 24 (λ d. kids d + (immWeight * imms d + (2 * vals d + ops d))) (F .nodes),
+        total-add kids (λ d. immWeight * imms d + (2 * vals d + ops d)) (F .nodes),
+        total-add (λ d. immWeight * imms d) (λ d. 2 * vals d + ops d) (F .nodes),
         total-add (λ d. 2 * vals d) ops (F .nodes),
-        total-scale imm imms (F .nodes),
+        total-scale immWeight imms (F .nodes),
         total-scale 2 vals (F .nodes),
         length-gather childrenOf (F .nodes),
         total-gather (λ i. opWeight (opOf F i)) blockOps (F .nodes),
@@ -166,7 +166,7 @@ module _ (F : Func) where
     unfolding opList
     ops-once = lines-once blockOps (block []) (F .nodes) (ok .forest .ops-once) (ok .forest .op-once)
 
-    op-lines : opsWeight F (opList F) ≤ 10 * length (F .ops) + (imm * total (λ o. immTotal (opInsts (o .kind))) (F .ops) + total (λ o. length (o .operands)) (F .ops))
+    op-lines : opsWeight F (opList F) ≤ 10 * length (F .ops) + (immWeight * total (λ o. immTotal (opInsts (o .kind))) (F .ops) + total (λ o. length (o .operands)) (F .ops))
     op-lines =
         let imms : Op → ℕ = λ o. immTotal (opInsts (o .kind)) in
         let vals : Op → ℕ = λ o. length (o .operands) in
@@ -174,9 +174,9 @@ module _ (F : Func) where
           arith,
           total-within (λ i. opWeight (opOf F i)) (opList F) (below (length (F .ops))) ops-once (λ i h. in-below (length (F .ops)) i (all-in _ (opList F) (named .ops-below) i h)),
           total-lines opWeight (F .ops) (record { attrs = 0; type = 0; kind = call 0; operands = [] }),
-          total-plus 10 (λ o. imm * imms o + vals o) (F .ops),
-          total-add (λ o. imm * imms o) vals (F .ops),
-          total-scale imm imms (F .ops),
+          total-plus 10 (λ o. immWeight * imms o + vals o) (F .ops),
+          total-add (λ o. immWeight * imms o) vals (F .ops),
+          total-scale immWeight imms (F .ops),
         )
 
     -- and a region at most once among children

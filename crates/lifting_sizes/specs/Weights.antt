@@ -17,8 +17,8 @@ abbrev pub head : ℕ
 head = 6
 
 -- an immediate
-abbrev pub imm : ℕ
-imm = 3
+abbrev pub immWeight : ℕ
+immWeight = 3
 
 -- The most words of a list: 23,184, which is 10 + 6 + 384 + 6,144 + 1,408 + 3,072 + 5,120 + 1,536 + 4,096 + 512 + 640 + 256. In order: function,
 -- end, parameters; label and way out of each point, of which a region and a node have two each; a merge for each node; phis; ops, with a
@@ -27,14 +27,14 @@ imm = 3
 -- one where it is a case; of a node one at its entry and one at its exit.
 abbrev pub maxWords : ℕ
 maxWords =
-    (head + imm + 1)
+    (head + immWeight + 1)
     + head
     + head * maxParams
     + (head + head) * (2 * maxRegions + 2 * maxNodes)
-    + (head + imm + 2) * maxNodes
+    + (head + immWeight + 2) * maxNodes
     + head * maxDecls
-    + (head + imm + 1) * maxOps
-    + imm * maxImmediates
+    + (head + immWeight + 1) * maxOps
+    + immWeight * maxImmediates
     + 2 * maxValues
     + maxTargets
     + (1 + 3 + 1) * maxRegions
@@ -46,17 +46,17 @@ immTotal l = total (λ i. length (i .imms)) l
 
 -- an op
 abbrev pub opWeight : Op → ℕ
-opWeight o = (head + imm + 1) + (imm * immTotal (opInsts (o .kind)) + length (o .operands))
+opWeight o = (head + immWeight + 1) + (immWeight * immTotal (opInsts (o .kind)) + length (o .operands))
 
 -- a merge
 abbrev pub mergeWeight : Merge → ℕ
 mergeWeight noMerge = 0
-mergeWeight (selectionMerge a u) = head + imm + 1
-mergeWeight (loopMerge a b u) = head + imm + 2
+mergeWeight (selectionMerge a u) = head + immWeight + 1
+mergeWeight (loopMerge a b u) = head + immWeight + 2
 
 -- a merge and a way out, but for the way out's head
 abbrev pub endWeight : Terminator → ℕ
-endWeight t = mergeWeight (t .merge) + (imm * immTotal (ctrlInsts (t .kind)) + (length (t .ins) + length (t .targets)))
+endWeight t = mergeWeight (t .merge) + (immWeight * immTotal (ctrlInsts (t .kind)) + (length (t .ins) + length (t .targets)))
 
 -- a weight that counts only where there is any
 abbrev pub ifAny : ℕ → ℕ → ℕ
@@ -68,7 +68,7 @@ abbrev pub movedBy : ControlInst → ℕ
 movedBy c = total (λ e. length (e .1)) (c .vals)
 
 abbrev pub ctrlWeight : ControlInst → ℕ
-ctrlWeight c = imm * immTotal (ctrlInsts (c .kind)) + (length (c .ins) + (2 * movedBy c + length (c .to)))
+ctrlWeight c = immWeight * immTotal (ctrlInsts (c .kind)) + (length (c .ins) + (2 * movedBy c + length (c .to)))
 
 -- a node: what its entry's way out reads, and what moves along the edges to it that have no values of their own
 abbrev pub readAt : Node → List Value
@@ -90,7 +90,7 @@ module _ (F : Func) where
 
   -- a node's entry, but for the heads: a merge, one target or a case each, immediates, inputs, ops
   abbrev pub nodeWeight : Node → ℕ
-  nodeWeight d = (head + imm + 2) + (1 + (length (childrenOf d) + (imm * immTotal (nodeInsts d) + (length (readAt d) + opsWeight (blockOps d)))))
+  nodeWeight d = (head + immWeight + 2) + (1 + (length (childrenOf d) + (immWeight * immTotal (nodeInsts d) + (length (readAt d) + opsWeight (blockOps d)))))
 
   -- a visited point, but for its phis; and with two words for each value that it sends to others
   abbrev pub blockWeight : BlockLifting → ℕ
@@ -126,4 +126,4 @@ module _ (F : Func) where
 
   -- all points, by the counts of the text's lines
   abbrev pub linesWeight : ℕ
-  linesWeight = 29 * length (F .regions) + (37 * length (F .nodes) + (10 * length (F .ops) + (imm * length (immediates F) + (2 * length (values F) + length (targets F)))))
+  linesWeight = 29 * length (F .regions) + (37 * length (F .nodes) + (10 * length (F .ops) + (immWeight * length (immediates F) + (2 * length (values F) + length (targets F)))))

@@ -1,5 +1,2 @@
--- What is printed of a text's kept blocks, and the words of the work slice that say it.
-pub mod Lines
-pub mod Positions
+-- The work slice before and behind what is printed of a text's kept blocks.
 pub mod Stand
-pub mod Room

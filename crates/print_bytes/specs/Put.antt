@@ -1,43 +1,29 @@
 -- Bytes appended to a slice at a place. A byte past the slice's end is counted and not stored, and a place stays at the largest number
 -- of 64 bits. Assumes nothing.
 --     PutBytes                         bytes put at a place: the whole slice at exit, and the next place
---     put-none, put-one           no bytes; one byte
---     put-more, put-same          one run of bytes after another; the same bytes, written otherwise
+--     put-bytes-none, put-bytes-one           no bytes; one byte
+--     put-bytes-more, put-bytes-same          one run of bytes after another; the same bytes, written otherwise
 --     Part                        of some bytes a first part is put, and these are left
 --     part-start, part-more       nothing is put; a run more
 --     part-done                   nothing is left
 --     put-fits                    where there is room, the bytes stand at the front, and the next place is their count
---     sets-out                    stores past the end
 use mathlib.Core.Path.{_≡_, refl, sym, ap, subst, _∙_}
 use mathlib.Core.Bool.{Bool, true, false}
 use mathlib.Core.List.{List, [], _∷_, _++_, append-assoc, append-nil}
-use mathlib.Core.Logic.{_⊎_, inl, inr, ⊎-elim}
+use mathlib.Core.Logic.{_⊎_, inl, inr}
 use Prim.Native.Nat.{ℕ, _+_, _-_, _≤_, _<_}
 use native.Mathlib.Omega.{arith}
 use lib.Dec.{leb}
-use lib.ListN.{length, set, take, drop, length-append, length-set}
-use lib.Seq.{sets, sets-eq, set-out, length-sets, take-append-seam}
+use lib.ListN.{length, set, take, drop, length-append}
+use lib.Seq.{sets, sets-eq, length-sets, take-append-seam}
 use borrow.Author.Tests.{leb-true, leb-false}
-use Rattle.general_laws.specs.Part.{sets-sets}
-
--- the largest number of 64 bits
-abbrev pub limit : ℕ
-limit = 18446744073709551615
-
--- a place, at most the limit
-abbrev pub sat : ℕ → ℕ
-sat n = n - (n - limit)
+use Rattle.general_laws.specs.Part.{lastPlace, sat, sets-sat}
 
 -- the bytes l put into the slice w at the place `at`: the slice is then `out`, and the place behind them `next`
 pub record PutBytes (w : List ℕ) (at : ℕ) (l : List ℕ) (out : List ℕ) (next : ℕ) : Type 0 where
-  pub size : length w ≤ limit
+  pub size : length w ≤ lastPlace
   pub stored : out ≡ sets w at l
   pub place : next ≡ sat (at + length l)
-
--- stores past the end change nothing
-pub sets-out : (vs w : List ℕ) (a : ℕ) → length w ≤ a → sets w a vs ≡ w
-sets-out [] w a h = refl
-sets-out (v ∷ vs) w a h = sets-out vs (set w a v) _ (omega (arith, length-set w a v)) ∙ set-out w a v h
 
 pub le-or : (a b : ℕ) → (a ≤ b) ⊎ (b < a)
 le-or a b = pick (leb a b) refl
@@ -46,24 +32,14 @@ le-or a b = pick (leb a b) refl
     pick true e = inl (leb-true a b e)
     pick false e = inr (leb-false a b e)
 
--- a run at a place that stays at the limit
-sets-sat : (w xs ys : List ℕ) (a : ℕ) → length w ≤ limit → sets (sets w a xs) (sat (a + length xs)) ys ≡ sets w a (xs ++ ys)
-sets-sat w xs ys a h =
-    ⊎-elim
-    (λ l. ap (λ (k : ℕ). sets (sets w a xs) k ys) (omega arith) ∙ sets-sets w xs ys a)
-    (λ g. sets-out ys (sets w a xs) (sat (a + length xs)) (omega (arith, length-sets w a xs))
-    ∙ sym (sets-out ys (sets w a xs) (a + length xs) (omega (arith, length-sets w a xs)))
-    ∙ sets-sets w xs ys a)
-    (le-or (a + length xs) limit)
+pub put-bytes-none : {w : List ℕ} {at : ℕ} → length w ≤ lastPlace → at ≤ lastPlace → PutBytes w at [] w at
+put-bytes-none h k = record { size = h; stored = refl; place = omega arith }
 
-pub put-none : {w : List ℕ} {at : ℕ} → length w ≤ limit → at ≤ limit → PutBytes w at [] w at
-put-none h k = record { size = h; stored = refl; place = omega arith }
+pub put-bytes-one : {w out : List ℕ} {at next : ℕ} (b : ℕ) → length w ≤ lastPlace → out ≡ set w at b → next ≡ sat (at + 1) → PutBytes w at (b ∷ []) out next
+put-bytes-one b h e n = record { size = h; stored = e; place = n }
 
-pub put-one : {w out : List ℕ} {at next : ℕ} (b : ℕ) → length w ≤ limit → out ≡ set w at b → next ≡ sat (at + 1) → PutBytes w at (b ∷ []) out next
-put-one b h e n = record { size = h; stored = e; place = n }
-
-pub put-more : {w u v : List ℕ} {a b c : ℕ} {k l : List ℕ} → PutBytes w a k u b → PutBytes u b l v c → PutBytes w a (k ++ l) v c
-put-more {w} {u} {v} {a} {b} {c} {k} {l} p q =
+pub put-bytes-more : {w u v : List ℕ} {a b c : ℕ} {k l : List ℕ} → PutBytes w a k u b → PutBytes u b l v c → PutBytes w a (k ++ l) v c
+put-bytes-more {w} {u} {v} {a} {b} {c} {k} {l} p q =
     record {
       size = p .size;
       stored = q .stored
@@ -73,16 +49,16 @@ put-more {w} {u} {v} {a} {b} {c} {k} {l} p q =
       place = omega (arith, p .place, q .place, length-append k l);
     }
 
-pub put-same : {w u : List ℕ} {a b : ℕ} {k l : List ℕ} → PutBytes w a k u b → k ≡ l → PutBytes w a l u b
-put-same {w} {u} {a} {b} p e = subst (λ (x : List ℕ). PutBytes w a x u b) e p
+pub put-bytes-same : {w u : List ℕ} {a b : ℕ} {k l : List ℕ} → PutBytes w a k u b → k ≡ l → PutBytes w a l u b
+put-bytes-same {w} {u} {a} {b} p e = subst (λ (x : List ℕ). PutBytes w a x u b) e p
 
 -- bytes from the start on, of which there are at most k
 pub put-low : {w out : List ℕ} {next k : ℕ} {l : List ℕ} → PutBytes w 0 l out next → length l ≤ k → next ≤ k
 put-low p h = omega (arith, p .place)
 
 -- the slice keeps its length
-pub put-length : {w out : List ℕ} {at next : ℕ} {l : List ℕ} → PutBytes w at l out next → length out ≡ length w
-put-length {w} {at = at} {l = l} p = ap length (p .stored) ∙ length-sets w at l
+pub put-bytes-length : {w out : List ℕ} {at next : ℕ} {l : List ℕ} → PutBytes w at l out next → length out ≡ length w
+put-bytes-length {w} {at = at} {l = l} p = ap length (p .stored) ∙ length-sets w at l
 
 -- of the bytes l, from the place a of the slice w on, a first part has been put, and the bytes `left` are to follow
 pub record Part (w : List ℕ) (a : ℕ) (l : List ℕ) (u : List ℕ) (b : ℕ) (left : List ℕ) : Type 0 where
@@ -90,20 +66,20 @@ pub record Part (w : List ℕ) (a : ℕ) (l : List ℕ) (u : List ℕ) (b : ℕ)
   pub put : PutBytes w a done u b
   pub whole : done ++ left ≡ l
 
-pub part-start : {w : List ℕ} {a : ℕ} (l : List ℕ) → length w ≤ limit → a ≤ limit → Part w a l w a l
-part-start l h k = record { done = []; put = put-none h k; whole = refl }
+pub part-start : {w : List ℕ} {a : ℕ} (l : List ℕ) → length w ≤ lastPlace → a ≤ lastPlace → Part w a l w a l
+part-start l h k = record { done = []; put = put-bytes-none h k; whole = refl }
 
 module _ {w u v l : List ℕ} {a b c : ℕ} {left : List ℕ} where
   pub part-more : {k r : List ℕ} → Part w a l u b left → PutBytes u b k v c → left ≡ k ++ r → Part w a l v c r
   part-more {k} {r} p q e =
       record {
         done = p .done ++ k;
-        put = put-more (p .put) q;
+        put = put-bytes-more (p .put) q;
         whole = append-assoc (p .done) k r ∙ ap (λ (x : List ℕ). p .done ++ x) (sym e) ∙ p .whole;
       }
 
 pub part-done : {w u l : List ℕ} {a b : ℕ} {left : List ℕ} → Part w a l u b left → left ≡ [] → PutBytes w a l u b
-part-done p e = put-same (p .put) (sym (append-nil (p .done)) ∙ ap (λ (x : List ℕ). p .done ++ x) (sym e) ∙ p .whole)
+part-done p e = put-bytes-same (p .put) (sym (append-nil (p .done)) ∙ ap (λ (x : List ℕ). p .done ++ x) (sym e) ∙ p .whole)
 
 -- bytes that were put at the front of a slice with room for them
 pub put-fits : {w out : List ℕ} {next : ℕ} {l : List ℕ} → PutBytes w 0 l out next → length l ≤ length w → (next ≡ length l) × (take (length l) out ≡ l)

@@ -9,23 +9,23 @@ use mathlib.Core.Option.{some}
 use Prim.Native.Nat.{ℕ}
 use Rattle.lifting.specs.Bytes.{bytes}
 use Rattle.lifting.specs.Digits.{digits, digitsTo}
-use Rattle.lifting.specs.Codec.{Codec, Whole, strip, lit, num, seq, same, view, many, list}
+use Rattle.lifting.specs.Codec.{Codec, Whole, strip, lit, num, seq, same, viewAs, many, list}
 use Rattle.lifting.specs.Whole.{end, readWhole, whole-full}
 use Rattle.lifting.specs.Ast.{Imm}
-use Rattle.lifting.specs.Grammar.{before, after, spaced, sub, closed, line, field, open1, one, numbers, imm, imms}
+use Rattle.lifting.specs.Grammar.{before, afterWord, spaced, sub, closed, line, field, open1, oneCodec, numbersCodec, immCodec, immsCodec}
 use Rattle.lifting.specs.Instructions.{Instruction, short, functionControl}
 
 -- `(OPCODE ATTRS TYPE RESULT (imms (KIND OPERANDKIND WORD)..) (ids ID..))` and byte 10
 abbrev pub InstForm : Type 0
 InstForm = ℕ × (ℕ × (ℕ × (ℕ × (List Imm × List ℕ))))
 
-unfoldable pub instForm : Codec InstForm
-instForm = after (closed (seq open1 (seq field (seq field (seq field (seq (sub "imms" imms) (sub "ids" numbers))))))) (bytes "\n") refl
+unfoldable pub instructionForm : Codec InstForm
+instructionForm = afterWord (closed (seq open1 (seq field (seq field (seq field (seq (sub "imms" immsCodec) (sub "ids" numbersCodec))))))) (bytes "\n") refl
 
 -- the line of an instruction
 unfoldable pub instLine : Codec Instruction
 instLine =
-    same instForm
+    same instructionForm
     (λ x. record { opcode = x .0; attrs = x .1 .0; type = x .1 .1 .0; result = x .1 .1 .1 .0; imms = x .1 .1 .1 .1 .0; ids = x .1 .1 .1 .1 .1 })
     (λ i. (i .opcode, (i .attrs, (i .type, (i .result, (i .imms, i .ids)))))) (λ i. refl) (λ x. refl)
 
@@ -35,7 +35,7 @@ instBytes i = instLine .print i
 
 -- a line for each instruction, as a format
 unfoldable pub listing : Whole (List Instruction × Unit {0})
-unfolding end instLine instForm closed after open1 lit num seq same view strip
+unfolding end instLine instructionForm closed afterWord open1 lit num seq same viewAs strip
 listing = many instLine end (λ u r. refl)
 
 -- the bytes of a list
@@ -46,7 +46,7 @@ listBytes (i ∷ l) = instBytes i ++ listBytes l
 
 -- `(refused N)` and byte 10
 unfoldable pub refusedBytes : ℕ → List ℕ
-refusedBytes n = line "refused" one .print n
+refusedBytes n = line "refused" oneCodec .print n
 
 -- a printed list can be read: where its numbers fit 32 bits, it is the list again
 pub printed-listing : (l : List Instruction) → listing .print (l, tt) ≡ listBytes l
@@ -71,9 +71,9 @@ listed =
     ∷ []
 
 pub listing-printed : listBytes listed ≡ bytes "(54 0 2 10 (imms (0 1 0)) (ids 3))\n(248 0 0 12 (imms) (ids))\n(128 0 4 11 (imms) (ids 5 5))\n(253 0 0 0 (imms) (ids))\n(56 0 0 0 (imms) (ids))\n"
-unfolding listBytes instBytes instLine instForm field open1 numbers imm imms sub spaced closed before after lit num seq same view list many digits digitsTo
+unfolding listBytes instBytes instLine instructionForm field open1 numbersCodec immCodec immsCodec sub spaced closed before afterWord lit num seq same viewAs list many digits digitsTo
 listing-printed = refl
 
 pub refusal-printed : refusedBytes 11 ≡ bytes "(refused 11)\n"
-unfolding refusedBytes line one field closed before after lit num seq same view digits digitsTo
+unfolding refusedBytes line oneCodec field closed before afterWord lit num seq same viewAs digits digitsTo
 refusal-printed = refl

@@ -1,4 +1,5 @@
 -- The list that stands in words, one instruction at a time: which words it is read from, and where the next one starts. Assumes nothing.
+--     tail-part                         the part of a slice from a place on
 --     imms-none, imms-next              the immediates from a place on
 --     instSize, inst-left, inst-ids     how many words an instruction has, the words behind it, and its ids
 --     list-next, list-end               the list from a place on
@@ -9,7 +10,7 @@ use Prim.Native.Nat.{ℕ, zero, suc, _+_, _-_, _*_, _≤_, _<_}
 use native.Mathlib.Nat.{add-zero}
 use native.Mathlib.Omega.{arith}
 use lib.ListN.{length, getD, take, drop, length-drop, drop-of-length-le}
-use lib.Seq.{getD-drop, drop-drop}
+use lib.Seq.{getD-drop, drop-drop, take-all}
 use Rattle.lifting.specs.Ast.{Imm}
 use Rattle.lifting.specs.Instructions.{Instruction}
 use Rattle.lifting.specs.Words.{immsFrom, headOr, instFrom, instsFrom, listFrom}
@@ -18,6 +19,10 @@ use Rattle.print_bytes.specs.Lines.{headBytes}
 -- no words past the end
 pub drop-past : (k : ℕ) (l : List ℕ) → length l ≤ k → drop k l ≡ []
 drop-past k l h = drop-of-length-le l h
+
+-- the part of a slice from a place on
+pub tail-part : (n : ℕ) (l : List ℕ) → take (length l - n) (drop n l) ≡ drop n l
+tail-part n l = take-all (length l - n) (drop n l) (omega (arith, length-drop n l))
 
 -- the words behind the immediates
 pub imms-left : (n : ℕ) (l : List ℕ) → immsFrom n l .left ≡ drop (3 * n) l
@@ -38,11 +43,11 @@ imms-none (suc n) (a ∷ b ∷ []) e = refl
 imms-none (suc n) (a ∷ b ∷ c ∷ l) e = absurd (⊎-elim (λ z. omega arith) (λ h. omega arith) e)
 
 -- an immediate of three words, and the one whose words stand at a place
-abbrev pub immOf : ℕ → ℕ → ℕ → Imm
-immOf k o w = record { kind = k; operand = o; word = w }
+abbrev pub takenImm : ℕ → ℕ → ℕ → Imm
+takenImm k o w = record { kind = k; operand = o; word = w }
 
 abbrev pub immAt : List ℕ → ℕ → Imm
-immAt l i = immOf (getD l i 0) (getD l (i + 1) 0) (getD l (i + 2) 0)
+immAt l i = takenImm (getD l i 0) (getD l (i + 1) 0) (getD l (i + 2) 0)
 
 imms-more : (n : ℕ) (l : List ℕ) → 0 < n → 3 ≤ length l → immsFrom n l .got ≡ immAt l 0 ∷ immsFrom (n - 1) (drop 3 l) .got
 imms-more zero l p h = absurd (omega arith)

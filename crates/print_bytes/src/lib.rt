@@ -5,12 +5,13 @@ ghost use mathlib.Core.List.{[], _∷_};
 ghost use Prim.Native.Nat.{_+_};
 ghost use lib.ListN.{set};
 ghost use Rattle.lifting.specs.Digits.{digits};
-ghost use Rattle.print_bytes.specs.Put.{PutBytes, sat};
+ghost use Rattle.general_laws.specs.Part.{sat};
+ghost use Rattle.print_bytes.specs.Put.{PutBytes};
 ghost use Rattle.print_bytes.specs.Lines.{fieldBytes};
 
 const LIMIT: usize = 18446744073709551615;
 
-// The place after `at`, which stays at the limit.
+// The place after `at`, which stays at the lastPlace.
 fn after(at: usize) -> usize
     ensures { λ r. ⌜ r ≡ sat (at + 1) ⌝ }
 {

@@ -12,12 +12,13 @@ use lib.Seq.{take-nil}
 use Rattle.command.specs.declared.Command.{Command}
 use Rattle.command.specs.declared.Command.the-variants.{Lift, Read, Blocks, Help, Unknown}
 use Rattle.command.specs.Opened.{lineRoom, opened-cut, opened-low, openedOf}
-use Rattle.print_list.specs.Cut.{inputRoom, parse-cut}
+use Rattle.read_first.specs.Cut.{inputRoom, parse-cut}
 use Rattle.read_input.specs.Known.{knownFor, text-decides}
+use Rattle.print_room.specs.Most.{lent}
 use Rattle.print_lifted.specs.Input.{bytes-cut, bytes-known}
-use Rattle.print_read.specs.Line.{readBytes}
-use Rattle.print_blocks.specs.Lines.{blocksBytes}
-use Rattle.print_command.specs.Printed.{caseBytes, commandBytes, lent, printedFor}
+use Rattle.print_refusal.specs.Line.{readBytes}
+use Rattle.print_lines.specs.Lines.{blocksBytes}
+use Rattle.print_command.specs.Printed.{caseBytes, commandBytes, printedFor}
 
 pub printed-known : (command : Command) (input : List ℕ) → knownFor command input ≡ true → (more : List ℕ)
     → printedFor command input ≡ printedFor command (input ++ more)

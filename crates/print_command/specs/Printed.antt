@@ -10,9 +10,10 @@ use Rattle.lifting.specs.Answer.{parse}
 use Rattle.command.specs.declared.Command.{Command}
 use Rattle.command.specs.declared.Command.the-variants.{Lift, Read, Blocks, Help, Unknown}
 use Rattle.command.specs.Opened.{openedOf}
+use Rattle.print_room.specs.Most.{lent}
 use Rattle.print_lifted.specs.Input.{inputBytes}
-use Rattle.print_read.specs.Line.{readBytes}
-use Rattle.print_blocks.specs.Lines.{blocksBytes}
+use Rattle.print_refusal.specs.Line.{readBytes}
+use Rattle.print_lines.specs.Lines.{blocksBytes}
 
 unfoldable pub helpBytes : List ℕ
 helpBytes =
@@ -29,10 +30,6 @@ commandBytes Read input func work out = readBytes (parse input func work)
 commandBytes Blocks input func work out = blocksBytes (parse input func work)
 commandBytes Help input func work out = helpBytes
 commandBytes Unknown input func work out = unknownBytes
-
--- the words of each slice
-abbrev pub lent : ℕ
-lent = 16384
 
 abbrev pub printedFor : Command → List ℕ → List ℕ
 printedFor command input = commandBytes command input lent lent lent

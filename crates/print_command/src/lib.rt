@@ -4,6 +4,7 @@ use print_blocks::put_answer;
 use print_bytes::put_bytes;
 use print_lifted::put_input;
 use print_read::put_read;
+use print_room::ROOM;
 ghost use mathlib.Core.List.{_++_};
 ghost use lib.ListN.{length};
 ghost use Rattle.lifting.specs.Bytes.{bytes};
@@ -54,9 +55,6 @@ pub fn put_case(out: &mut [u8], case: &[u8]) -> usize
     let n = put(command, out, &case[at..]);
     put_bytes(out, n, b"%%\n")
 }
-
-// Room for what is printed of an input or of a case: twelve bytes for each word of a list, and more than any other answer has.
-const ROOM: usize = 196640;
 
 // Prints what a command prints for an input.
 pub fn print(command: Command, input: &[u8]) {

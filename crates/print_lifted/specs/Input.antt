@@ -13,16 +13,16 @@ use Rattle.refusals.specs.declared.Refusal.the-variants.{Forms}
 use Rattle.refusals.specs.Numbers.{refusalNumber}
 use Rattle.lifting.specs.Words.{listFrom}
 use Rattle.lifting.specs.Answer.{Answer, answer, listed, outAfter, refused}
-use Rattle.emitter.specs.declared.Lifted.{Lifted}
-use Rattle.emitter.specs.declared.Lifted.the-variants.{Refused, Whole}
-use Rattle.emitter.specs.Emit.{outcome, refuses, told}
+use Rattle.results.specs.declared.Lifted.{Lifted}
+use Rattle.results.specs.declared.Lifted.the-variants.{Refused, Whole}
+use Rattle.emit_output.specs.Emit.{outcome, refuses, told}
 use Rattle.lifter.specs.Demand3.{written-list, written-low}
 use Rattle.print_bytes.specs.Shown.{listBytes, refusedBytes}
-use Rattle.read_cursor.specs.Read.{Moves, Reads, rest}
-use Rattle.print_list.specs.declared.First.{First}
-use Rattle.print_list.specs.declared.First.the-variants.{At, Bad}
-use Rattle.print_list.specs.Opening.{firstLine, firstOf}
-use Rattle.print_list.specs.Cut.{ByText, answer-cut, input-cut, inputRoom}
+use Rattle.read_cursor.specs.Read.{Moves, Reads, restFrom}
+use Rattle.read_first.specs.declared.First.{First}
+use Rattle.read_first.specs.declared.First.the-variants.{At, Bad}
+use Rattle.read_first.specs.Opening.{firstLineForm, firstAnswer}
+use Rattle.read_first.specs.Cut.{ByText, answer-cut, input-cut, inputRoom}
 use Rattle.read_input.specs.Known.{known-decides, knownBy}
 
 -- It prints opcode, attributes, result type, result id, immediates, ids. A refusal prints `(refused N)`.
@@ -36,8 +36,8 @@ lineBytes none func work out = refusedBytes (refusalNumber Forms)
 lineBytes (some x) func work out = answerBytes (answer (x .1) (x .0) func work out)
 
 unfoldable pub inputBytes : List ℕ → ℕ → ℕ → ℕ → List ℕ
-unfolding firstLine
-inputBytes input func work out = lineBytes (firstLine .read input) func work out
+unfolding firstLineForm
+inputBytes input func work out = lineBytes (firstLineForm .read input) func work out
 
 -- what a slice holds at the end, where an answer leaves it as g says; a bad first line leaves every slice alone
 abbrev pub lineLeaves : (Answer → List ℕ → List ℕ) → Option (ℕ × List ℕ) → ℕ → ℕ → ℕ → List ℕ → List ℕ
@@ -45,8 +45,8 @@ lineLeaves g none func work out w = w
 lineLeaves g (some x) func work out w = g (answer (x .1) (x .0) func work out) w
 
 unfoldable pub inputLeaves : (Answer → List ℕ → List ℕ) → List ℕ → ℕ → ℕ → ℕ → List ℕ → List ℕ
-unfolding firstLine
-inputLeaves g input func work out w = lineLeaves g (firstLine .read input) func work out w
+unfolding firstLineForm
+inputLeaves g input func work out w = lineLeaves g (firstLineForm .read input) func work out w
 
 -- ---- how much of an input decides
 
@@ -101,25 +101,25 @@ module _ (text func work out exit : List ℕ) (first : ℕ) where
 
 -- ---- the first line
 
-module _ (input : List ℕ) (func work out : ℕ) (r : First) (reads : Reads (firstLine .read) input 0 (firstOf r)) where
-  line-is : firstLine .read input ≡ rest input (firstOf r)
+module _ (input : List ℕ) (func work out : ℕ) (r : First) (reads : Reads (firstLineForm .read) input 0 (firstAnswer r)) where
+  line-is : firstLineForm .read input ≡ restFrom input (firstAnswer r)
   line-is = reads .is
 
   pub bad-line : r ≡ Bad → refusedBytes (refusalNumber Forms) ≡ inputBytes input func work out
   unfolding inputBytes
-  bad-line e = sym (ap (λ (o : Option (ℕ × List ℕ)). lineBytes o func work out) (line-is ∙ ap (λ (x : First). rest input (firstOf x)) e))
+  bad-line e = sym (ap (λ (o : Option (ℕ × List ℕ)). lineBytes o func work out) (line-is ∙ ap (λ (x : First). restFrom input (firstAnswer x)) e))
 
   pub good-line : {n k : ℕ} → r ≡ At n k → answerBytes (answer (drop k input) n func work out) ≡ inputBytes input func work out
   unfolding inputBytes
-  good-line e = sym (ap (λ (o : Option (ℕ × List ℕ)). lineBytes o func work out) (line-is ∙ ap (λ (x : First). rest input (firstOf x)) e))
+  good-line e = sym (ap (λ (o : Option (ℕ × List ℕ)). lineBytes o func work out) (line-is ∙ ap (λ (x : First). restFrom input (firstAnswer x)) e))
 
   pub bad-leaves : (g : Answer → List ℕ → List ℕ) (w : List ℕ) → r ≡ Bad → w ≡ inputLeaves g input func work out w
   unfolding inputLeaves
-  bad-leaves g w e = sym (ap (λ (o : Option (ℕ × List ℕ)). lineLeaves g o func work out w) (line-is ∙ ap (λ (x : First). rest input (firstOf x)) e))
+  bad-leaves g w e = sym (ap (λ (o : Option (ℕ × List ℕ)). lineLeaves g o func work out w) (line-is ∙ ap (λ (x : First). restFrom input (firstAnswer x)) e))
 
   pub good-leaves : (g : Answer → List ℕ → List ℕ) (w : List ℕ) {n k : ℕ} → r ≡ At n k → g (answer (drop k input) n func work out) w ≡ inputLeaves g input func work out w
   unfolding inputLeaves
-  good-leaves g w e = sym (ap (λ (o : Option (ℕ × List ℕ)). lineLeaves g o func work out w) (line-is ∙ ap (λ (x : First). rest input (firstOf x)) e))
+  good-leaves g w e = sym (ap (λ (o : Option (ℕ × List ℕ)). lineLeaves g o func work out w) (line-is ∙ ap (λ (x : First). restFrom input (firstAnswer x)) e))
 
   pub line-low : {n k : ℕ} → r ≡ At n k → k ≤ length input
-  line-low {n} {k} e = subst (λ (x : First). Moves input 0 (firstOf x)) e (reads .moves) .fits
+  line-low {n} {k} e = subst (λ (x : First). Moves input 0 (firstAnswer x)) e (reads .moves) .fits

@@ -12,8 +12,9 @@ use Rattle.lifting.specs.Words.{list-from, listFrom}
 use Rattle.lifting.specs.Answer.{Answer, answer, listed, refused}
 use Rattle.lifting_runs.specs.Passes.{answer-passes}
 use Rattle.print_bytes.specs.Shown.{listBytes}
-use Rattle.print_list.specs.Room.{list-room, refused-room}
-use Rattle.print_list.specs.Opening.{firstLine}
+use Rattle.print_refusal.specs.Room.{refused-room}
+use Rattle.print_list.specs.Room.{list-room}
+use Rattle.read_first.specs.Opening.{firstLineForm}
 use Rattle.print_lifted.specs.Input.{answerBytes, inputBytes, lineBytes}
 
 module _ (out : ℕ) where
@@ -31,4 +32,4 @@ module _ (out : ℕ) where
 
   pub input-room : (input : List ℕ) (func work : ℕ) → length (inputBytes input func work out) ≤ 12 * out + 21
   unfolding inputBytes
-  input-room input func work = line-room (firstLine .read input) func work
+  input-room input func work = line-room (firstLineForm .read input) func work

@@ -1,12 +1,12 @@
 // What is printed for an input, a line `(first N)` and a text.
-use emitter::Lifted;
 use lifter::lift_function;
-use print_list::First;
-use print_list::first_line;
 use print_list::list;
-use print_list::refused;
-use refusals::Refusal;
+use print_refusal::bad_line;
+use print_refusal::refused;
+use read_first::First;
+use read_first::first_line;
 use refusals::number;
+use results::Lifted;
 ghost use Prim.Native.Nat.{_+_, _*_, _≤_};
 ghost use lib.ListN.{length};
 ghost use mathlib.Core.Path.{_≡_};
@@ -59,7 +59,7 @@ pub fn put_input(
     ensures out_slice { λ _. ⌜ now (out .exit) ≡ inputLeaves outAfter (now (input .entry)) (length (now (func .entry))) (length (now (work .entry))) (length (now (out .entry))) (now (out .entry)) ⌝ }
 {
     let First::At(first, at) = first_line(input) else {
-        return refused(number(Refusal::Forms), bytes);
+        return bad_line(bytes);
     };
     put_text(bytes, &input[at..], first, func, work, out)
 }

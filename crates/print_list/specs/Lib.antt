@@ -1,5 +1,2 @@
--- What the program prints, and the line that it reads before the text.
-pub mod Laws
-pub mod Cut
+-- How many bytes a printed list has.
 pub mod Room
-pub mod Opening

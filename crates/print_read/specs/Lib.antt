@@ -1,2 +1,2 @@
--- What is printed for an answer of the reader, and how a batch is cut into its texts.
+-- What is printed for an answer of the reader.
 pub mod Line

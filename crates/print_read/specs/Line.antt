@@ -1,38 +1,15 @@
--- The line that is printed for an answer of the reader: the refusal's number, or the word `accepted`. Assumes nothing.
---     readBytes, line-is    by the definition's answer, and by the reader's
---     read-room             how many bytes it has at most
+-- The line that is printed for an answer of the reader is that of the definition's. Assumes nothing.
+--     line-is    for what stands in the function slice
 use mathlib.Core.Path.{_≡_, refl}
-use mathlib.Core.List.{List, _++_}
-use Prim.Native.Nat.{ℕ, _≤_}
-use native.Mathlib.Omega.{arith}
-use lib.Dec.{lit≤}
-use lib.ListN.{length, length-append}
-use Rattle.refusals.specs.Numbers.{refusalNumber}
-use Rattle.lifting.specs.Bytes.{bytes}
-use Rattle.lifting.specs.Digits.{digits}
-use Rattle.lifting.specs.Answer as answer
-use Rattle.lifting.specs.Answer.{parsed, denied}
-use Rattle.check_text.specs.declared.Parsed.{Parsed}
-use Rattle.check_text.specs.declared.Parsed.the-variants.{Function, Refused}
+use mathlib.Core.List.{List}
+use Prim.Native.Nat.{ℕ}
+use Rattle.results.specs.declared.Parsed.{Parsed}
+use Rattle.results.specs.declared.Parsed.the-variants.{Function, Refused}
 use Rattle.reader.specs.Parse.{answerOf}
-use Rattle.print_list.specs.Room.{digits-length}
-
-unfoldable pub readBytes : answer.Parsed → List ℕ
-readBytes (parsed F) = bytes "accepted\n"
-readBytes (denied n) = digits n ++ bytes "\n"
-
-unfoldable pub lineOf : Parsed → List ℕ
-lineOf Function = bytes "accepted\n"
-lineOf (Refused r) = digits (refusalNumber r) ++ bytes "\n"
+use Rattle.print_refusal.specs.Line.{lineOf, readBytes}
 
 -- the function slice holds the function of an accepted text
 pub line-is : (p : Parsed) (func : List ℕ) → lineOf p ≡ readBytes (answerOf p func)
 unfolding lineOf readBytes
 line-is Function func = refl
 line-is (Refused r) func = refl
-
--- ten digits and byte 10 at most
-pub read-room : (p : answer.Parsed) → length (readBytes p) ≤ 11
-unfolding readBytes
-read-room (parsed F) = lit≤ tt
-read-room (denied n) = omega (arith, length-append (digits n) (bytes "\n"), digits-length n)

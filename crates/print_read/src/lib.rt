@@ -1,28 +1,11 @@
 // What is printed of the reader's answer to a text: the refusal's number, or the word `accepted`.
-use check_text::Parsed;
-use print_bytes::put_byte;
-use print_bytes::put_bytes;
-use print_bytes::put_number;
-use refusals::number;
+use print_refusal::put_line;
 ghost use mathlib.Core.Path.{_≡_};
 ghost use lib.ListN.{length};
 ghost use Rattle.lifting.specs.Answer.{parse};
 ghost use Rattle.reader.specs.Parse.{funcAfter, workAfter};
 ghost use Rattle.print_bytes.specs.Put.{PutBytes};
-ghost use Rattle.print_read.specs.Line.{lineOf, readBytes};
-
-// The bytes of the line for an answer stand in `bytes`: how many.
-fn put_line(bytes: &mut [u8], parsed: Parsed) -> usize
-    ensures { λ n. ⌜ PutBytes (now (bytes .entry)) 0 (lineOf parsed) (now (bytes .exit)) n ⌝ }
-{
-    match parsed {
-        Parsed::Function => put_bytes(bytes, 0, b"accepted\n"),
-        Parsed::Refused(r) => {
-            let n = put_number(bytes, 0, number(r));
-            put_byte(bytes, n, b'\n')
-        }
-    }
-}
+ghost use Rattle.print_refusal.specs.Line.{readBytes};
 
 // The bytes of the line for a text stand in `bytes`: how many.
 pub fn put_read(bytes: &mut [u8], text: &[u8], func: &mut [u32], work: &mut [u32]) -> usize

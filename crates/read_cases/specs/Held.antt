@@ -14,9 +14,9 @@ use lib.Dec.{eqb}
 use lib.ListN.{length, set, take, drop, length-set, drop-of-length-le, length-drop, take-append-drop}
 use lib.Seq.{paste, sets, sets-eq, length-take-le, length-sets, drop-drop}
 use borrow.Author.Tests.{eqb-true, eqb-false, ne-eqb}
-use Rattle.general_laws.specs.Part.{sets-sets}
-use Rattle.print_bytes.specs.Put.{sets-out, le-or}
-use Rattle.read_cases.specs.Cut.{matchedAfter, cutOf, cut-more, fitting}
+use Rattle.general_laws.specs.Part.{sets-out, sets-sets}
+use Rattle.print_bytes.specs.Put.{le-or}
+use Rattle.read_marks.specs.Cut.{matchedAfter, cutOf, cut-more, fittingBytes}
 use Rattle.read_cases.specs.declared.State.{State}
 
 -- the room for a text, how many of its bytes are held, and how many bytes of "\n%%\n" they end with
@@ -25,18 +25,18 @@ pub record HeldCase : Type 0 where
   pub len : ℕ
   pub matched : ℕ
 
-abbrev pub held : List ℕ → ℕ → ℕ → HeldCase
-held text len matched = record { text = text; len = len; matched = matched }
+abbrev pub heldCase : List ℕ → ℕ → ℕ → HeldCase
+heldCase text len matched = record { text = text; len = len; matched = matched }
 
 abbrev pub heldOf : List ℕ → State → HeldCase
-heldOf text s = held text (s .len) (s .matched)
+heldOf text s = heldCase text (s .len) (s .matched)
 
 -- what was taken of the bytes read, from one place to another
-abbrev pub partOf : ℕ → ℕ → List ℕ → List ℕ
-partOf from end bytes = take (end - from) (drop from bytes)
+abbrev pub takenPart : ℕ → ℕ → List ℕ → List ℕ
+takenPart from end bytes = take (end - from) (drop from bytes)
 
 -- the counts are within a buffer and a text of these lengths
-pub record Within (buffer text : ℕ) (s : State) : Type 0 where
+pub record CountsWithin (buffer text : ℕ) (s : State) : Type 0 where
   pub len : s .len ≤ text
   pub from : s .from ≤ s .till
   pub till : s .till ≤ buffer
@@ -48,7 +48,7 @@ lenAfter matched len = cond (eqb matched 4) 0 len
 abbrev pub byteAfter : HeldCase → ℕ → HeldCase
 byteAfter s b =
     let m = matchedAfter (s .matched) b in
-    held (set (s .text) (s .len) b) (lenAfter m (min (s .len + 1) (length (s .text)))) m
+    heldCase (set (s .text) (s .len) b) (lenAfter m (min (s .len + 1) (length (s .text)))) m
 
 unfoldable pub heldAfter : HeldCase → List ℕ → HeldCase
 heldAfter s [] = s
@@ -80,7 +80,7 @@ len-low m len = go (eqb m 4)
 -- what is held after a part, with so much matched then
 abbrev pub keptWith : HeldCase → List ℕ → ℕ → HeldCase
 keptWith s part m =
-    held (sets (s .text) (s .len) part) (lenAfter m (s .len + fitting (s .text) (s .len) part)) m
+    heldCase (sets (s .text) (s .len) part) (lenAfter m (s .len + fittingBytes (s .text) (s .len) part)) m
 
 -- the part up to the end of a text, and what follows it
 abbrev Cut : ℕ → List ℕ → HeldCase → Type 0
@@ -106,8 +106,8 @@ run-on text vs len b h =
     (λ k. sets-out vs (set text len b) (min (len + 1) (length text)) (omega arith) ∙ sym (sets-out vs (set text len b) (suc len) (omega arith)))
     (le-or (len + 1) (length text))
 
-one-fits : (text : List ℕ) (len b : ℕ) → len ≤ length text → min (len + 1) (length text) ≡ len + fitting text len (b ∷ [])
-unfolding fitting
+one-fits : (text : List ℕ) (len b : ℕ) → len ≤ length text → min (len + 1) (length text) ≡ len + fittingBytes text len (b ∷ [])
+unfolding fittingBytes
 one-fits text len b h = omega arith
 
 more-numbers : (len size q n : ℕ) → len ≤ size → n ≡ min (len + 1) size → n + min q (size - n) ≡ len + min (suc q) (size - len)
@@ -115,8 +115,8 @@ more-numbers len size q n h e =
     ⊎-elim (λ k. let f : n ≡ len + 1 = omega arith in omega arith) (λ k. let f : n ≡ len = omega arith in omega arith) (le-or (len + 1) size)
 
 more-fits : (text : List ℕ) (len b : ℕ) (vs : List ℕ) → len ≤ length text
-    → min (len + 1) (length text) + fitting (set text len b) (min (len + 1) (length text)) vs ≡ len + fitting text len (b ∷ vs)
-unfolding fitting
+    → min (len + 1) (length text) + fittingBytes (set text len b) (min (len + 1) (length text)) vs ≡ len + fittingBytes text len (b ∷ vs)
+unfolding fittingBytes
 more-fits text len b vs h =
     let n = min (len + 1) (length text) in
     ap (λ (x : ℕ). n + min (length vs) (x - n)) (length-set text len b) ∙ more-numbers len (length text) (length vs) n h refl
@@ -132,54 +132,54 @@ module _ (b : ℕ) (t : List ℕ) (at : ℕ) (text : List ℕ) (len m : ℕ) (h 
   n = min (len + 1) (length text)
 
   -- the text ends here
-  cut-here : k ≡ 4 → cutOf at m (b ∷ t) ≡ (at + 1, 4) → Cut at (b ∷ t) (held text len m)
+  cut-here : k ≡ 4 → cutOf at m (b ∷ t) ≡ (at + 1, 4) → Cut at (b ∷ t) (heldCase text len m)
   unfolding heldAfter
   cut-here four e =
       let one : at + 1 - at ≡ 1 = omega arith in
-      ap (λ (x : ℕ). heldAfter (held (set text len b) (lenAfter x n) x) t) four
-      ∙ ap (λ (x : ℕ). heldAfter (held (set text len b) (lenAfter 4 x) 4) t) (one-fits text len b h)
-      ∙ ap (λ (x : ℕ). heldAfter (keptWith (held text len m) (take x (b ∷ t)) 4) (drop x (b ∷ t))) (sym one)
-      ∙ ap (rest at b t (held text len m)) (sym e)
+      ap (λ (x : ℕ). heldAfter (heldCase (set text len b) (lenAfter x n) x) t) four
+      ∙ ap (λ (x : ℕ). heldAfter (heldCase (set text len b) (lenAfter 4 x) 4) t) (one-fits text len b h)
+      ∙ ap (λ (x : ℕ). heldAfter (keptWith (heldCase text len m) (take x (b ∷ t)) 4) (drop x (b ∷ t))) (sym one)
+      ∙ ap (rest at b t (heldCase text len m)) (sym e)
 
   -- it doesn't
-  cut-on : (k ≡ 4 → ⊥) → Cut (at + 1) t (held (set text len b) n k) → Cut at (b ∷ t) (held text len m)
+  cut-on : (k ≡ 4 → ⊥) → Cut (at + 1) t (heldCase (set text len b) n k) → Cut at (b ∷ t) (heldCase text len m)
   unfolding heldAfter
   cut-on other ih =
       let p = cutOf (at + 1) k t in
       let x = p .0 - (at + 1) in
       let low = cut-low t (at + 1) k in
       let far : suc x ≡ p .0 - at = omega arith in
-      ap (λ (y : ℕ). heldAfter (held (set text len b) y k) t) (len-stays k n other)
+      ap (λ (y : ℕ). heldAfter (heldCase (set text len b) y k) t) (len-stays k n other)
       ∙ ih
-      ∙ ap (λ (l : List ℕ). heldAfter (held l (lenAfter (p .1) (n + fitting (set text len b) n (take x t))) (p .1)) (drop x t)) (run-on text (take x t) len b h)
-      ∙ ap (λ (y : ℕ). heldAfter (held (sets text len (b ∷ take x t)) (lenAfter (p .1) y) (p .1)) (drop x t)) (more-fits text len b (take x t) h)
-      ∙ ap (λ (y : ℕ). heldAfter (keptWith (held text len m) (take y (b ∷ t)) (p .1)) (drop y (b ∷ t))) far
-      ∙ ap (rest at b t (held text len m)) (sym (cut-more at m b t other))
+      ∙ ap (λ (l : List ℕ). heldAfter (heldCase l (lenAfter (p .1) (n + fittingBytes (set text len b) n (take x t))) (p .1)) (drop x t)) (run-on text (take x t) len b h)
+      ∙ ap (λ (y : ℕ). heldAfter (heldCase (sets text len (b ∷ take x t)) (lenAfter (p .1) y) (p .1)) (drop x t)) (more-fits text len b (take x t) h)
+      ∙ ap (λ (y : ℕ). heldAfter (keptWith (heldCase text len m) (take y (b ∷ t)) (p .1)) (drop y (b ∷ t))) far
+      ∙ ap (rest at b t (heldCase text len m)) (sym (cut-more at m b t other))
 
   -- by the byte: what follows one that ends no text
-  cut-byte : ((u : List ℕ) (x y : ℕ) → x ≤ length u → (y ≡ 4 → ⊥) → Cut (at + 1) t (held u x y)) → Cut at (b ∷ t) (held text len m)
+  cut-byte : ((u : List ℕ) (x y : ℕ) → x ≤ length u → (y ≡ 4 → ⊥) → Cut (at + 1) t (heldCase u x y)) → Cut at (b ∷ t) (heldCase text len m)
   cut-byte ih = go (eqb k 4) refl
     where
-      go : (q : Bool) → eqb k 4 ≡ q → Cut at (b ∷ t) (held text len m)
+      go : (q : Bool) → eqb k 4 ≡ q → Cut at (b ∷ t) (heldCase text len m)
       go true e = cut-here (eqb-true k 4 e) (unfold cutOf in rw (e, cutOf))
       go false e = let other = eqb-false k 4 e in cut-on other (ih (set text len b) n k (omega (arith, length-set text len b)) other)
 
-cut-rest : (t : List ℕ) (at : ℕ) (text : List ℕ) (len m : ℕ) → len ≤ length text → (m ≡ 4 → ⊥) → Cut at t (held text len m)
-unfolding heldAfter cutOf fitting
+cut-rest : (t : List ℕ) (at : ℕ) (text : List ℕ) (len m : ℕ) → len ≤ length text → (m ≡ 4 → ⊥) → Cut at t (heldCase text len m)
+unfolding heldAfter cutOf fittingBytes
 cut-rest [] at text len m h other =
     let none : at - at ≡ 0 = omega arith in
     let fit : len ≡ len + min 0 (length text - len) = omega arith in
-    ap (λ (x : ℕ). held text x m) (fit ∙ sym (len-stays m _ other))
-    ∙ ap (λ (x : ℕ). heldAfter (keptWith (held text len m) (take x []) m) (drop x [])) (sym none)
+    ap (λ (x : ℕ). heldCase text x m) (fit ∙ sym (len-stays m _ other))
+    ∙ ap (λ (x : ℕ). heldAfter (keptWith (heldCase text len m) (take x []) m) (drop x [])) (sym none)
 cut-rest (b ∷ t) at text len m h other = cut-byte b t at text len m h (cut-rest t (at + 1))
 
-cut-all : (t : List ℕ) (at : ℕ) (text : List ℕ) (len m : ℕ) → len ≤ length text → 0 < length t → Cut at t (held text len m)
+cut-all : (t : List ℕ) (at : ℕ) (text : List ℕ) (len m : ℕ) → len ≤ length text → 0 < length t → Cut at t (heldCase text len m)
 cut-all [] at text len m h some = absurd (omega arith)
 cut-all (b ∷ t) at text len m h some = cut-byte b t at text len m h (cut-rest t (at + 1))
 
 -- the bytes of a part that fit, behind the first ones
-pub paste-sets : (text part : List ℕ) (len : ℕ) → len ≤ length text → paste text len part (fitting text len part) ≡ sets text len part
-unfolding fitting
+pub paste-sets : (text part : List ℕ) (len : ℕ) → len ≤ length text → paste text len part (fittingBytes text len part) ≡ sets text len part
+unfolding fittingBytes
 paste-sets text part len h =
     let n = min (length part) (length text - len) in
     let a = take n part in
@@ -194,9 +194,9 @@ paste-sets text part len h =
 
 -- a part of the bytes read is cut off and kept: what is held then, with the bytes that follow, is what is held after all of them
 pub held-cut : (bytes text : List ℕ) (at len m end next : ℕ) → at < length bytes → len ≤ length text → (end, next) ≡ cutOf at m (drop at bytes)
-    → heldAfter (held text len m) (drop at bytes)
-    ≡ heldAfter (held (paste text len (take (end - at) (drop at bytes)) (fitting text len (take (end - at) (drop at bytes))))
-    (lenAfter next (len + fitting text len (take (end - at) (drop at bytes)))) next) (drop end bytes)
+    → heldAfter (heldCase text len m) (drop at bytes)
+    ≡ heldAfter (heldCase (paste text len (take (end - at) (drop at bytes)) (fittingBytes text len (take (end - at) (drop at bytes))))
+    (lenAfter next (len + fittingBytes text len (take (end - at) (drop at bytes)))) next) (drop end bytes)
 held-cut bytes text at len m end next h l e =
     let t = drop at bytes in
     let low : at ≤ end = omega (arith, cut-low t at m, ap (λ (p : ℕ × ℕ). p .0) e) in
@@ -204,6 +204,6 @@ held-cut bytes text at len m end next h l e =
     let left : drop (end - at) t ≡ drop end bytes =
     drop-drop (end - at) at bytes ∙ (let f : at + (end - at) ≡ end = omega arith in ap (λ (n : ℕ). drop n bytes) f) in
     cut-all t at text len m l (omega (arith, length-drop at bytes))
-    ∙ ap (λ (p : ℕ × ℕ). heldAfter (keptWith (held text len m) (take (p .0 - at) t) (p .1)) (drop (p .0 - at) t)) (sym e)
-    ∙ ap (λ (x : List ℕ). heldAfter (held x (lenAfter next (len + fitting text len part)) next) (drop (end - at) t)) (sym (paste-sets text part len l))
-    ∙ ap (heldAfter (held (paste text len part (fitting text len part)) (lenAfter next (len + fitting text len part)) next)) left
+    ∙ ap (λ (p : ℕ × ℕ). heldAfter (keptWith (heldCase text len m) (take (p .0 - at) t) (p .1)) (drop (p .0 - at) t)) (sym e)
+    ∙ ap (λ (x : List ℕ). heldAfter (heldCase x (lenAfter next (len + fittingBytes text len part)) next) (drop (end - at) t)) (sym (paste-sets text part len l))
+    ∙ ap (heldAfter (heldCase (paste text len part (fittingBytes text len part)) (lenAfter next (len + fittingBytes text len part)) next)) left

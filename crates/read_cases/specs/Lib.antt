@@ -1,5 +1,4 @@
--- How a batch is cut into cases, and what is held of one.
-pub mod Cut
+-- The texts of a batch, and what is held of one.
 pub mod Texts
 pub mod Held
 pub mod Kept

@@ -12,7 +12,7 @@ use lib.Dec.{eqb}
 use lib.ListN.{length, length-append}
 use borrow.Author.Tests.{eqb-true, eqb-false}
 use Rattle.lifting.specs.Bytes.{bytes}
-use Rattle.read_cases.specs.Cut.{percentAfter, matchedAfter, matched-end, matched-none, cutOf, cut-more}
+use Rattle.read_marks.specs.Cut.{percentAfter, matchedAfter, matched-end, matched-none, cutOf, cut-more}
 
 -- the bytes of a line, without its end
 pub data Line : List ℕ → Type 0 where

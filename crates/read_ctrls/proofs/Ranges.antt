@@ -13,34 +13,36 @@ use lib.ListN.{drop}
 use Rattle.lifting.specs.Bytes.{bytes}
 use Rattle.lifting.specs.Digits.{Reading}
 use Rattle.general_laws.specs.Lists.{every}
-use Rattle.lifting.specs.Codec.{then, then-then, both, up, strip, lit, seq, view, same}
+use Rattle.lifting.specs.Codec.{then, then-then, bothOf, up, strip, lit, seq, viewAs, same}
 use Rattle.lifting.specs.Ast.{Value, Imm, Inst, boolCond, spvInst, ControlInstKind, unreachable, return, branch, selectBranch, exitInvocation, ControlInst}
 use Rattle.lifting.specs.Parts.{ctrlInsts}
-use Rattle.lifting.specs.Grammar.{after, closed, imms}
+use Rattle.lifting.specs.Grammar.{afterWord, closed, immsCodec}
 use Rattle.read_cursor.specs.Read.{Reads, literal}
-use Rattle.read_cursor.specs.Heads.{instRest, exitRest, selectionRest, controlRest}
-use Rattle.read_cursor.specs.declared.Selection.{Selection}
-use Rattle.read_cursor.specs.declared.Selection.the-variants as sel
-use Rattle.read_cursor.specs.declared.Control.{Control}
-use Rattle.read_cursor.specs.declared.Control.the-variants as ctrl
-use Rattle.check_references.specs.Test.{opcodeFits}
+use Rattle.read_insts.specs.Heads.{instRest, exitRest, selectionRest, controlRest}
+use Rattle.read_insts.specs.declared.Selection.{Selection}
+use Rattle.read_insts.specs.declared.Selection.the-variants as sel
+use Rattle.read_insts.specs.declared.Control.{Control}
+use Rattle.read_insts.specs.declared.Control.the-variants as ctrl
+use Rattle.check_insts.specs.Test.{opcodeFits}
 use Rattle.func.specs.declared.Marks.{Marks}
 use Rattle.func.specs.Layout.{targets}
 use Rattle.func.specs.Store.{folds}
-use Rattle.func.specs.Keep.{ctrlNumber, opcodeOf, immsOf, keepImm, keepEntry, keepCtrl}
+use Rattle.func.specs.Keep.{ctrlNumber, instOpcode, instImms, keepImm, keepEntry, keepCtrl}
 use Rattle.func.specs.Kinds.{ctrlKindNumber}
 use Rattle.func.specs.Rows.{marksOf, ctrlRowFrom, keepCtrl-is}
-use Rattle.read_lines.specs.Stores.{Stores, stored, taken, refused, stores-one, stores-none, as-up, as-told, as-kept, after-stored, after-refused}
+use Rattle.read_lines.specs.Stores.{Stores, storedBy, stores-taken, stores-refused, stores-one, stores-none, as-up, as-told, as-kept, after-stored, after-refused}
 use Rattle.read_ctrls.specs.declared.CtrlHead.{CtrlHead}
-use Rattle.read_ctrls.specs.declared.Judged.{Judged}
-use Rattle.read_ctrls.specs.Judge.{Edges, keepEdge, State, edgesOf, keepJudged, targetsFit}
+use Rattle.check_ctrls.specs.declared.Judged.{Judged}
+use Rattle.check_edges.specs.Edges.{Edges, keepEdge, targetsFit}
+use Rattle.read_ctrls.specs.Judge.{State, judgedEdges, keepJudged}
 use Rattle.read_ctrls.specs.Tails.{ctrlLists, edgesForm, ctrlRest, toCtrl, ctrlTail}
-use Rattle.read_ctrls.specs.Answers.{edgesAt, stateAt, judgedWith, kindOf, opcodeIn, keepForms, keepInstForms, keepLists}
+use Rattle.read_ctrls.specs.Answers.{edgesState, stateAt, kindOf, keepForms, keepInstForms, keepLists}
+use Rattle.check_ctrls.specs.Judged.{judgedWith, opcodeIn}
 
 -- a reader that reads the same
 pub as-read : {A S : Type 0} {p q : List ℕ → Reading A} {f : A → S → S} {text : List ℕ} {at : ℕ} {found : Option (Unit {0} × ℕ)} {w v : S} → ((u : List ℕ) → p u ≡ q u)
     → Stores q f text at found w v → Stores p f text at found w v
-as-read {f = f} {text} {at} {w = w} e s = record { is = ap (stored f w) (e (drop at text)) ∙ s .is; moves = s .moves }
+as-read {f = f} {text} {at} {w = w} e s = record { is = ap (storedBy f w) (e (drop at text)) ∙ s .is; moves = s .moves }
 
 -- the lists behind a kind without an INST
 module _ (k : Control) {text : List ℕ} {at : ℕ} {found : Option (Unit {0} × ℕ)} {w v : List ℕ} where
@@ -48,8 +50,8 @@ module _ (k : Control) {text : List ℕ} {at : ℕ} {found : Option (Unit {0} ×
       → Stores (ctrlRest k) keepLists text at found w v
   unfolding folds
   plain-lists d n e s =
-      as-read (λ u. ap (λ (o : Reading ControlInstKind). then o (λ x. then (ctrlLists .read (x .1)) (both (x .0)))) (e u))
-      (as-up (ctrlLists .read) (λ y. (d, y)) (as-kept (λ y. ap (λ (is : List Inst). keepForms y (folds keepImm (immsOf is) w)) n) s))
+      as-read (λ u. ap (λ (o : Reading ControlInstKind). then o (λ x. then (ctrlLists .read (x .1)) (bothOf (x .0)))) (e u))
+      (as-up (ctrlLists .read) (λ y. (d, y)) (as-kept (λ y. ap (λ (is : List Inst). keepForms y (folds keepImm (instImms is) w)) n) s))
 
 -- behind an INST, and behind that of an exit
 abbrev instKind : (Inst → ControlInstKind) → ℕ → List Imm × (List Value × List ℕ) → ControlInstKind × (List Value × List ℕ)
@@ -57,32 +59,32 @@ instKind f n y = (f (record { opcode = n; imms = y .0 }), y .1)
 
 kept : (f : Inst → ControlInstKind) → ((i : Inst) → ctrlInsts (f i) ≡ i ∷ []) → (n : ℕ) (w : List ℕ) (y : List Imm × (List Value × List ℕ)) → keepLists (instKind f n y) w ≡ keepInstForms y w
 kept f e n w y =
-    ap (λ (is : List Inst). keepForms (y .1) (folds keepImm (immsOf is) w)) (e (record { opcode = n; imms = y .0 }))
+    ap (λ (is : List Inst). keepForms (y .1) (folds keepImm (instImms is) w)) (e (record { opcode = n; imms = y .0 }))
     ∙ ap (λ (is : List Imm). keepForms (y .1) (folds keepImm is w)) (append-nil (y .0))
 
 module _ {k : Control} {n : ℕ} {text : List ℕ} {at : ℕ} {found : Option (Unit {0} × ℕ)} {w v : List ℕ} where
-  pub inst-lists : k ≡ ctrl.Select (sel.Inst n) → Stores (seq imms ctrlLists .read) keepInstForms text at found w v → Stores (ctrlRest k) keepLists text at found w v
+  pub inst-lists : k ≡ ctrl.Select (sel.Inst n) → Stores (seq immsCodec ctrlLists .read) keepInstForms text at found w v → Stores (ctrlRest k) keepLists text at found w v
   inst-lists e s =
       as-told ctrlRest e
-      (as-read {q = λ u. then (seq imms ctrlLists .read u) (up (instKind (λ i. selectBranch (spvInst i)) n))} (λ u. unfold seq in simp then-then)
-      (as-up (seq imms ctrlLists .read) (instKind (λ i. selectBranch (spvInst i)) n) (as-kept (kept (λ i. selectBranch (spvInst i)) (λ i. refl) n w) s)))
+      (as-read {q = λ u. then (seq immsCodec ctrlLists .read u) (up (instKind (λ i. selectBranch (spvInst i)) n))} (λ u. unfold seq in simp then-then)
+      (as-up (seq immsCodec ctrlLists .read) (instKind (λ i. selectBranch (spvInst i)) n) (as-kept (kept (λ i. selectBranch (spvInst i)) (λ i. refl) n w) s)))
 
-  pub exit-lists : k ≡ ctrl.Exit n → Stores (seq (closed imms) ctrlLists .read) keepInstForms text at found w v → Stores (ctrlRest k) keepLists text at found w v
+  pub exit-lists : k ≡ ctrl.Exit n → Stores (seq (closed immsCodec) ctrlLists .read) keepInstForms text at found w v → Stores (ctrlRest k) keepLists text at found w v
   exit-lists e s =
       as-told ctrlRest e
-      (as-read {q = λ u. then (seq (closed imms) ctrlLists .read u) (up (instKind exitInvocation n))} (λ u. unfold closed after lit seq same view in simp then-then)
-      (as-up (seq (closed imms) ctrlLists .read) (instKind exitInvocation n) (as-kept (kept exitInvocation (λ i. refl) n w) s)))
+      (as-read {q = λ u. then (seq (closed immsCodec) ctrlLists .read u) (up (instKind exitInvocation n))} (λ u. unfold closed afterWord lit seq same viewAs in simp then-then)
+      (as-up (seq (closed immsCodec) ctrlLists .read) (instKind exitInvocation n) (as-kept (kept exitInvocation (λ i. refl) n w) s)))
 
 -- immediates and a bracket
 module _ {text : List ℕ} {at : ℕ} {w v : List ℕ} where
-  pub closed-stored : {mid : ℕ} {found : Option (Unit {0} × ℕ)} → Stores (imms .read) (folds keepImm) text at (some (tt, mid)) w v → Reads (literal (bytes ")")) text mid found
-      → Stores (closed imms .read) (folds keepImm) text at found w v
+  pub closed-stored : {mid : ℕ} {found : Option (Unit {0} × ℕ)} → Stores (immsCodec .read) (folds keepImm) text at (some (tt, mid)) w v → Reads (literal (bytes ")")) text mid found
+      → Stores (closed immsCodec .read) (folds keepImm) text at found w v
   unfolding closed
-  closed-stored p q = after-stored imms (bytes ")") refl p q
+  closed-stored p q = after-stored immsCodec (bytes ")") refl p q
 
-  pub closed-refused : Stores (imms .read) (folds keepImm) text at none w v → Stores (closed imms .read) (folds keepImm) text at none w v
+  pub closed-refused : Stores (immsCodec .read) (folds keepImm) text at none w v → Stores (closed immsCodec .read) (folds keepImm) text at none w v
   unfolding closed
-  closed-refused p = after-refused imms (bytes ")") refl p
+  closed-refused p = after-refused immsCodec (bytes ")") refl p
 
 -- what holds of everything that a reader may find
 record Yields {A : Type 0} (o : Reading A) (P : A → Type 0) : Type 0 where
@@ -107,14 +109,14 @@ yields-any o = record { each = λ x e. tt }
 -- a kind has the number and the opcode of its head, and its opcodes fit as that does
 pub record KindIs (k : Control) (d : ControlInstKind) : Type 0 where
   pub number : ctrlNumber d ≡ ctrlKindNumber (kindOf k)
-  pub opcode : opcodeOf (ctrlInsts d) ≡ opcodeIn k
+  pub opcode : instOpcode (ctrlInsts d) ≡ opcodeIn k
   pub fits : every (λ i. opcodeFits (i .opcode)) (ctrlInsts d) ≡ opcodeFits (opcodeIn k)
 
 abbrev Opens : ℕ → Inst → Type 0
 Opens n i = i .opcode ≡ n
 
 inst-yields : (n : ℕ) (u : List ℕ) → Yields (instRest n u) (Opens n)
-inst-yields n u = yields-then {P = Any} (imms .read u) _ (yields-any (imms .read u)) (λ x p. yields-some _ refl)
+inst-yields n u = yields-then {P = Any} (immsCodec .read u) _ (yields-any (immsCodec .read u)) (λ x p. yields-some _ refl)
 
 exit-yields : (n : ℕ) (u : List ℕ) → Yields (exitRest n u) (Opens n)
 exit-yields n u = yields-then (instRest n u) _ (inst-yields n u) (λ x p. by-strip x p (strip (bytes ")") (x .1)))
@@ -164,22 +166,22 @@ tail-is h u r x e = ap (λ (o : Reading (ControlInstKind × (List Value × List 
 module _ (h : CtrlHead) {text : List ℕ} {at : ℕ} {w v m : List ℕ} {seen : Judged} where
   pub line-refused : {y : State} → Stores (ctrlRest (h .kind)) keepLists text at none w v → Stores (ctrlTail h) keepJudged text at none (stateAt w m seen) y
   line-refused s =
-      stores-none (record { is = ap (λ (o : Reading (ControlInstKind × (List Value × List ℕ))). then o (λ x. entriesOf h (x .0) (edgesForm .read (x .1)))) (refused s); moves = tt })
+      stores-none (record { is = ap (λ (o : Reading (ControlInstKind × (List Value × List ℕ))). then o (λ x. entriesOf h (x .0) (edgesForm .read (x .1)))) (stores-refused s); moves = tt })
 
   module _ {mid : ℕ} (line : ℕ) (s : Stores (ctrlRest (h .kind)) keepLists text at (some (tt, mid)) w v) where
     pub line-unended : {y : State} {x z : Edges} → Stores (edgesForm .read) (folds (keepEdge line)) text mid none x z → Stores (ctrlTail h) keepJudged text at none (stateAt w m seen) y
     line-unended t =
-        let x = taken s in
-        stores-none (record { is = tail-is h (drop at text) (drop mid text) (x .0) (x .1) ∙ ap (entriesOf h (x .0)) (refused t); moves = tt })
+        let x = stores-taken s in
+        stores-none (record { is = tail-is h (drop at text) (drop mid text) (x .0) (x .1) ∙ ap (entriesOf h (x .0)) (stores-refused t); moves = tt })
 
     pub line-stored : {next : ℕ} {u n r : List ℕ} {fit : Bool} {k l : Marks} {j : Judged}
-        → Stores (edgesForm .read) (folds (keepEdge line)) text mid (some (tt, next)) (edgesAt v m true) (edgesAt u n fit) → line ≡ seen .line + 1 → k ≡ marksOf w → l ≡ marksOf v
+        → Stores (edgesForm .read) (folds (keepEdge line)) text mid (some (tt, next)) (edgesState v m true) (edgesState u n fit) → line ≡ seen .line + 1 → k ≡ marksOf w → l ≡ marksOf v
         → j ≡ judgedWith seen (h .kind) (fit && targetsFit u n (seen .line + 1) (k .targets))
         → r ≡ ctrlRowFrom k l (h .region) (h .attrs) (ctrlKindNumber (kindOf (h .kind))) (opcodeIn (h .kind)) u
         → Stores (ctrlTail h) keepJudged text at (some (tt, next)) (stateAt w m seen) (stateAt r n j)
     line-stored {next} {u} {n} {r} {fit} {k} {l} {j} t numbered began ended judged row =
-        let x = taken s in
-        let y = taken t in
+        let x = stores-taken s in
+        let y = stores-taken t in
         stores-one (record {
           is = tail-is h (drop at text) (drop mid text) (x .0) (x .1) ∙ ap (entriesOf h (x .0)) (y .1);
           moves = record { moved = omega (arith, s .moves .moved, t .moves .moved); fits = t .moves .fits };
@@ -189,20 +191,20 @@ module _ (h : CtrlHead) {text : List ℕ} {at : ℕ} {w v m : List ℕ} {seen : 
         next-line : suc (seen .line) ≡ seen .line + 1
         next-line = omega arith
 
-        edges-are : (x : ControlInstKind × (List Value × List ℕ)) (es : List (ℕ × List Value)) → keepLists x w ≡ v → folds (keepEdge line) es (edgesAt v m true) ≡ edgesAt u n fit
-            → edgesOf (toCtrl h x es .1) (stateAt w m seen) ≡ edgesAt u n fit
-        edges-are x es a b = unfold edgesOf in ((λ i. folds (keepEdge ((next-line ∙ sym numbered) i)) es (edgesAt (a i) m true)) ∙ b)
+        edges-are : (x : ControlInstKind × (List Value × List ℕ)) (es : List (ℕ × List Value)) → keepLists x w ≡ v → folds (keepEdge line) es (edgesState v m true) ≡ edgesState u n fit
+            → judgedEdges (toCtrl h x es .1) (stateAt w m seen) ≡ edgesState u n fit
+        edges-are x es a b = unfold judgedEdges in ((λ i. folds (keepEdge ((next-line ∙ sym numbered) i)) es (edgesState (a i) m true)) ∙ b)
 
-        row-is : (x : ControlInstKind × (List Value × List ℕ)) (es : List (ℕ × List Value)) → keepLists x w ≡ v → KindIs (h .kind) (x .0) → folds (keepEdge line) es (edgesAt v m true) ≡ edgesAt u n fit
+        row-is : (x : ControlInstKind × (List Value × List ℕ)) (es : List (ℕ × List Value)) → keepLists x w ≡ v → KindIs (h .kind) (x .0) → folds (keepEdge line) es (edgesState v m true) ≡ edgesState u n fit
             → keepCtrl (toCtrl h x es) w ≡ r
         row-is x es a q b =
-            let f : folds keepEntry es v ≡ u = sym (edges-func line es (edgesAt v m true)) ∙ ap (λ (z : Edges). z .func) b in
+            let f : folds keepEntry es v ≡ u = sym (edges-func line es (edgesState v m true)) ∙ ap (λ (z : Edges). z .func) b in
             keepCtrl-is (toCtrl h x es) w
             ∙ (λ i. ctrlRowFrom (sym began i) (marksOf (a i)) (h .region) (h .attrs) (q .number i) (q .opcode i) (folds keepEntry es (a i)))
             ∙ (λ i. ctrlRowFrom k (sym ended i) (h .region) (h .attrs) (ctrlKindNumber (kindOf (h .kind))) (opcodeIn (h .kind)) (f i))
             ∙ sym row
 
-        state : (x : ControlInstKind × (List Value × List ℕ)) → keepLists x w ≡ v → KindIs (h .kind) (x .0) → (es : List (ℕ × List Value)) → folds (keepEdge line) es (edgesAt v m true) ≡ edgesAt u n fit
+        state : (x : ControlInstKind × (List Value × List ℕ)) → keepLists x w ≡ v → KindIs (h .kind) (x .0) → (es : List (ℕ × List Value)) → folds (keepEdge line) es (edgesState v m true) ≡ edgesState u n fit
             → keepJudged (toCtrl h x es) (stateAt w m seen) ≡ stateAt r n j
         state x a q es b =
             let g = edges-are x es a b in

@@ -20,14 +20,14 @@ use Rattle.lifting.specs.Parts as text
 use Rattle.general_laws.specs.Gather.{gather-none}
 use Rattle.func.specs.Layout.{poolTotal, decls, values, targets, entries, regions, ctrls, shapes, lay, pools, poolOf, width, room, entry-room}
 use Rattle.func.specs.Store.{count, view, push, folds}
-use Rattle.func.specs.Adds.{AddsReady, Adds, ready-after, adds-then, into, adds-push, adds-many, grown, adds-folds, grown-none}
+use Rattle.func.specs.Adds.{AddsReady, Adds, ready-after, adds-then, intoPool, adds-push, adds-many, grown, adds-folds, grown-none}
 use Rattle.func.specs.Lines.{keepCells, gained, lineGain}
 use Rattle.func.specs.Keep.{valueWords, entryCells, ctrlCells, keepValue, keepEntry, keepCtrl}
 use Rattle.func.specs.Rows.{entryRow, keepEntry-is, ctrlRowFrom, keepCtrlLists, keepCtrl-is}
 use Rattle.func.specs.Gains.{entry-line, gain, entryGain, adds-entry, adds-ctrl-cells, entries-at, ctrlGain, adds-ctrl}
 use Rattle.func.specs.Tables.{word}
 use Rattle.func.specs.Stored.{Stored, ins-count}
-use Rattle.read_ctrls.specs.Judge.{insOf}
+use Rattle.check_edges.specs.Edges.{insOf}
 
 -- the words v come before the words t, and no region comes between
 pub record Amid (v t : List ℕ) : Type 0 where
@@ -44,7 +44,7 @@ amid-before {g = g} r a e m = record {
   none = rw (e, m .none);
 }
 
-amid-push : {v t : List ℕ} (k : ℕ) (e : List ℕ) → AddsReady v → k < poolTotal → length e ≡ width k → into k (e ∷ []) regions ≡ []
+amid-push : {v t : List ℕ} (k : ℕ) (e : List ℕ) → AddsReady v → k < poolTotal → length e ≡ width k → intoPool k (e ∷ []) regions ≡ []
     → Amid (push k e v) t → Amid v t
 amid-push k e r l q n m = amid-before r (adds-push k e r l q) n m
 
@@ -54,10 +54,10 @@ unfolding folds
 folds-map k f [] w = refl
 folds-map k f (x ∷ xs) w = folds-map k f xs (push k (f x) w)
 
-pub adds-values : (vs : List Value) {w : List ℕ} → AddsReady w → Adds w (folds keepValue vs w) (into values (map valueWords vs))
+pub adds-values : (vs : List Value) {w : List ℕ} → AddsReady w → Adds w (folds keepValue vs w) (intoPool values (map valueWords vs))
 unfolding entryCells
 adds-values vs {w} r =
-    subst (λ (u : List ℕ). Adds w u (into values (map valueWords vs))) (folds-map values valueWords vs w)
+    subst (λ (u : List ℕ). Adds w u (intoPool values (map valueWords vs))) (folds-map values valueWords vs w)
     (adds-many values (map valueWords vs) r (lit< tt) (entry-line (0, vs) .wide .0))
 
 lists-are : (c : ℕ × ControlInst) (w : List ℕ) → keepCells (ctrlCells c) w ≡ keepCtrlLists (c .1) w
@@ -90,7 +90,7 @@ module _ {t : List ℕ} where
 
   -- before a line's row
   pub amid-row : (c : ℕ × ControlInst) {w : List ℕ} → AddsReady w → Amid (keepCtrl c w) t → Amid (folds keepEntry (c .1 .vals) (keepCtrlLists (c .1) w)) t
-  unfolding ctrlRowFrom into width poolOf pools shapes lay
+  unfolding ctrlRowFrom intoPool width poolOf pools shapes lay
   amid-row c {w} r m =
       let a = ready-after r (adds-lists c r) in
       let q = ready-after a (adds-entries (c .1 .vals) a) in
@@ -101,7 +101,7 @@ module _ {t : List ℕ} where
   amid-entries es {w} r m = amid-before r (adds-entries es r) (entries-none es w) m
 
   pub amid-values : (e : ℕ × List Value) {w : List ℕ} → AddsReady w → Amid (keepEntry e w) t → Amid (folds keepValue (e .1) w) t
-  unfolding entryRow into width poolOf pools shapes lay
+  unfolding entryRow intoPool width poolOf pools shapes lay
   amid-values e {w} r m =
       let q = ready-after r (adds-values (e .1) r) in
       amid-push entries _ q (lit< tt) refl refl (subst (λ (u : List ℕ). Amid u t) (keepEntry-is e w) m)

@@ -16,20 +16,21 @@ use Rattle.lifting.specs.Limits.{maxRegions, maxTargets, withinLimits}
 use Rattle.lifting.specs.Ast.{Value, ControlInst, Func}
 use Rattle.lifting.specs.Parts.{regionOf, valsFor, ctrlInsts}
 use Rattle.lifting.specs.Counts.{edgesFit}
-use Rattle.check_references.specs.Test.{opcodeFits}
+use Rattle.check_insts.specs.Test.{opcodeFits}
 use Rattle.general_laws.specs.Every.{every-append, every-same}
 use Rattle.func.specs.Layout.{values, targets, entry-room}
 use Rattle.func.specs.Store.{count, view, folds, length-view}
-use Rattle.func.specs.Adds.{AddsReady, Adds, ready-after, adds-then, into, grown, grown-none}
+use Rattle.func.specs.Adds.{AddsReady, Adds, ready-after, adds-then, intoPool, grown, grown-none}
 use Rattle.func.specs.Lines.{gained, lineGain}
-use Rattle.func.specs.Keep.{single, valueWords, entryCells, ctrlCells, keepValue, keepEntry, keepCtrl, keepFunc}
+use Rattle.func.specs.Keep.{oneWord, valueWords, entryCells, ctrlCells, keepValue, keepEntry, keepCtrl, keepFunc}
 use Rattle.func.specs.Rows.{keepCtrlLists}
 use Rattle.func.specs.Gains.{gain, entryGain, adds-entry, adds-ctrl}
 use Rattle.func.specs.Tables.{word}
 use Rattle.func.specs.Whole.{Clear, withOps, withNodes, withRegions, withParams, withConsts, headed, ready-clear, clear-head, stages}
 use Rattle.func.specs.Stored.{Stored, stored-func}
-use Rattle.read_ctrls.specs.Judge.{insOf, entryFits, Edges, keepEdge, targetFits, targetsFit, State, edgesOf, keepJudged, start}
-use Rattle.read_ctrls.specs.Marked.{Low, low-next, low-entries, marked, edge-is}
+use Rattle.check_edges.specs.Edges.{insOf, entryFits, Edges, keepEdge, targetEntered, targetsFit}
+use Rattle.read_ctrls.specs.Judge.{State, judgedEdges, keepJudged, start}
+use Rattle.read_ctrls.specs.Marked.{Low, low-next, low-entries, marked, edge-by-marks}
 use Rattle.read_ctrls.specs.Amid.{Amid, adds-values, adds-lists, adds-entries, amid-lines, amid-row, amid-entries, amid-values, value-room, target-room, ins-of, no-ins}
 
 pub func-judged : (cs : List (ℕ × ControlInst)) (s : State) → folds keepJudged cs s .func ≡ folds keepCtrl cs (s .func)
@@ -66,7 +67,7 @@ eqb-shift a i n = go (eqb n i) refl
     go true e = eq-eqb (a + i) (a + n) (omega (arith, eqb-true n i e))
     go false e = ne-eqb (a + i) (a + n) (λ q. eqb-false n i e (omega arith))
 
-single-at : (xs : List ℕ) (i : ℕ) → getD (getD (map single xs) i []) 0 0 ≡ getD xs i 0
+single-at : (xs : List ℕ) (i : ℕ) → getD (getD (map oneWord xs) i []) 0 0 ≡ getD xs i 0
 single-at [] i = refl
 single-at (x ∷ xs) zero = refl
 single-at (x ∷ xs) (suc i) = single-at xs i
@@ -78,7 +79,7 @@ every-numbered p q [] a h = refl
 every-numbered p q (x ∷ xs) a h =
     λ k. h 0 a (omega arith) (omega arith) k && every-numbered p q xs (suc a) (λ i j l e. h (suc i) j (omega arith) (omega arith)) k
 
--- A line before its entries, as `edgesOf` begins, and the words after them.
+-- A line before its entries, as `judgedEdges` begins, and the words after them.
 abbrev opened : ControlInst → State → Edges
 opened c s = record { func = keepCtrlLists c (s .func); marks = s .marks; fit = true }
 
@@ -101,17 +102,17 @@ listed c w = folds keepEntry (c .1 .vals) (keepCtrlLists (c .1) w)
 unfoldable lineGains : ℕ × ControlInst → List ℕ → ℕ → List (List ℕ)
 lineGains c w j = gained (ctrlCells c) j ++ grown keepEntry entryGain (c .1 .vals) (keepCtrlLists (c .1) w) j
 
-targets-gained : (c : ℕ × ControlInst) (w : List ℕ) → lineGains c w targets ≡ map single (c .1 .to)
+targets-gained : (c : ℕ × ControlInst) (w : List ℕ) → lineGains c w targets ≡ map oneWord (c .1 .to)
 unfolding lineGains gained ctrlCells gain lineGain entryCells
 targets-gained c w =
-    ap (λ (x : List (List ℕ)). map single (c .1 .to) ++ x) (grown-none keepEntry entryGain targets (λ e w. refl) (c .1 .vals) (keepCtrlLists (c .1) w))
-    ∙ append-nil (map single (c .1 .to))
+    ap (λ (x : List (List ℕ)). map oneWord (c .1 .to) ++ x) (grown-none keepEntry entryGain targets (λ e w. refl) (c .1 .vals) (keepCtrlLists (c .1) w))
+    ∙ append-nil (map oneWord (c .1 .to))
 
 module _ {F : Func} {t : List ℕ} (d : Stored F t) (l : withinLimits F ≡ true) where
   -- an entry
   entry-is : (e : ℕ × List Value) {w : List ℕ} → AddsReady w → Amid (keepEntry e w) t
       → entryFits (e .0) w (folds keepValue (e .1) w) ≡ entryAgrees F e
-  unfolding entryFits into
+  unfolding entryFits intoPool
   entry-is e {w} r m =
       let a = amid-values e r m in
       let n : count values (folds keepValue (e .1) w) ≡ count values w + length (e .1) =
@@ -138,16 +139,16 @@ module _ {F : Func} {t : List ℕ} (d : Stored F t) (l : withinLimits F ≡ true
 
     target-count : count targets (listed c w) ≡ count targets w + length (c .1 .to)
     target-count =
-        omega (arith, adds-line .counts targets (lit< tt), ap length (targets-gained c w), length-map (c .1 .to) single, target-room d l m)
+        omega (arith, adds-line .counts targets (lit< tt), ap length (targets-gained c w), length-map (c .1 .to) oneWord, target-room d l m)
 
     target-at : (i j : ℕ) → j ≡ count targets w + i → word targets (listed c w) j 0 ≡ getD (c .1 .to) i 0
     target-at i j e =
-        let pool : view targets (listed c w) ≡ view targets w ++ map single (c .1 .to) =
+        let pool : view targets (listed c w) ≡ view targets w ++ map oneWord (c .1 .to) =
         adds-line .views targets (lit< tt) (target-room d l m) ∙ ap (λ (x : List (List ℕ)). view targets w ++ x) (targets-gained c w) in
         let size : length (view targets w) ≡ count targets w = omega (arith, length-view targets w, target-count, target-room d l m) in
         (λ k. getD (getD (pool k) (e k) []) 0 0)
-        ∙ ap (λ (n : ℕ). getD (getD (view targets w ++ map single (c .1 .to)) (n + i) []) 0 0) (sym size)
-        ∙ ap (λ (x : List ℕ). getD x 0 0) (getD-append-add (view targets w) (map single (c .1 .to)) i [])
+        ∙ ap (λ (n : ℕ). getD (getD (view targets w ++ map oneWord (c .1 .to)) (n + i) []) 0 0) (sym size)
+        ∙ ap (λ (x : List ℕ). getD x 0 0) (getD-append-add (view targets w) (map oneWord (c .1 .to)) i [])
         ∙ single-at (c .1 .to) i
 
     -- a region is marked where it has an entry in the line
@@ -164,28 +165,28 @@ module _ {F : Func} {t : List ℕ} (d : Stored F t) (l : withinLimits F ≡ true
               ∙ sym (ap (λ (b : Bool). b || within i (keys (c .1 .vals))) (eq-eqb _ 0 (sym (ins-of d l m i) ∙ none)))
 
       targets-are : targetsFit (listed c w) marks line (count targets w) ≡ every (reached F (c .1)) (c .1 .to)
-      unfolding targetsFit targetFits
+      unfolding targetsFit targetEntered
       targets-are =
           let n : count targets (listed c w) - count targets w ≡ length (c .1 .to) = omega (arith, target-count) in
           let few : leb (count targets (listed c w)) maxTargets ≡ true =
           le-leb (count targets (listed c w)) maxTargets (omega (arith, target-room d l m, entry-room targets)) in
-          (λ k. cond (few k) (every (targetFits (listed c w) marks line) (tabulate (λ i. i) (count targets w) (n k))) true)
-          ∙ every-numbered (targetFits (listed c w) marks line) (reached F (c .1)) (c .1 .to) (count targets w)
+          (λ k. cond (few k) (every (targetEntered (listed c w) marks line) (tabulate (λ i. i) (count targets w) (n k))) true)
+          ∙ every-numbered (targetEntered (listed c w) marks line) (reached F (c .1)) (c .1 .to) (count targets w)
           (λ i j h e. ap (λ (x : ℕ). eqb (insOf (listed c w) x) 0 || eqb (getD marks x 0) line) (target-at i j e) ∙ target-is (getD (c .1 .to) i 0))
 
   -- a line
   edges-are : (c : ControlInst) (fit : Bool) → fit ≡ every (entryAgrees F) (c .vals)
       → (fit && every (reached F c) (c .to)) ≡ edgesFit F c
   edges-are c true e =
-      λ k. e k && every-same (edge-is (λ i. length (regionOf F i .ins)) (c .vals) (sym e)) (c .to) k
+      λ k. e k && every-same (edge-by-marks (λ i. length (regionOf F i .ins)) (c .vals) (sym e)) (c .to) k
   edges-are c false e =
       ap (λ (b : Bool). b && every (λ i. eqb (length (valsFor c i)) (length (regionOf F i .ins))) (c .to)) e
 
   line-is : (c : ℕ × ControlInst) (s : State) → AddsReady (s .func) → Low (s .line) (s .marks) → Amid (keepCtrl c (s .func)) t
       → keepJudged c s .edges ≡ (s .edges && edgesFit F (c .1))
-  unfolding keepJudged edgesOf listed
+  unfolding keepJudged judgedEdges listed
   line-is c s r low m =
-      let e = edgesOf (c .1) s in
+      let e = judgedEdges (c .1) s in
       let a = amid-row c r m in
       let fit = entries-are (suc (s .line)) (c .1 .vals) (opened (c .1) s) (ready-after r (adds-lists c r)) a in
       ap (λ (b : Bool). s .edges && b)
@@ -193,14 +194,14 @@ module _ {F : Func} {t : List ℕ} (d : Stored F t) (l : withinLimits F ≡ true
       ∙ ap (λ (b : Bool). e .fit && b) (targets-are c r a (suc (s .line)) (e .marks) known)
       ∙ edges-are (c .1) (e .fit) fit)
     where
-      known : (i : ℕ) → i < maxRegions → eqb (getD (edgesOf (c .1) s .marks) i 0) (suc (s .line)) ≡ within i (keys (c .1 .vals))
+      known : (i : ℕ) → i < maxRegions → eqb (getD (judgedEdges (c .1) s .marks) i 0) (suc (s .line)) ≡ within i (keys (c .1 .vals))
       known i h =
           marked (suc (s .line)) (c .1 .vals) (opened (c .1) s) i h (low .size)
-          ∙ ap (λ (b : Bool). b || within i (keys (c .1 .vals))) (ne-eqb (getD (s .marks) i 0) (suc (s .line)) (λ q. omega (arith, low .low i)))
+          ∙ ap (λ (b : Bool). b || within i (keys (c .1 .vals))) (ne-eqb (getD (s .marks) i 0) (suc (s .line)) (λ q. omega (arith, low .low i h)))
 
   edges-from : (cs : List (ℕ × ControlInst)) (s : State) → AddsReady (s .func) → Low (s .line) (s .marks) → folds keepCtrl cs (s .func) ≡ t
       → folds keepJudged cs s .edges ≡ (s .edges && every (λ c. edgesFit F (c .1)) cs)
-  unfolding folds keepJudged edgesOf
+  unfolding folds keepJudged judgedEdges
   edges-from [] s r low e = and-true (s .edges)
   edges-from (c ∷ cs) s r low e =
       let q = ready-after r (adds-ctrl c (s .func) r) in
@@ -208,11 +209,11 @@ module _ {F : Func} {t : List ℕ} (d : Stored F t) (l : withinLimits F ≡ true
       ∙ ap (λ (b : Bool). b && every (λ c. edgesFit F (c .1)) cs) (line-is c s r low (amid-lines cs q e))
       ∙ and-assoc (s .edges) (edgesFit F (c .1)) (every (λ c. edgesFit F (c .1)) cs)
 
-pub edges-judged : (F : Func) {z : List ℕ} → Clear z → (m : List ℕ) → maxRegions ≤ length m → ((i : ℕ) → getD m i 0 ≡ 0) → withinLimits F ≡ true
+pub edges-judged : (F : Func) {z : List ℕ} → Clear z → (m : List ℕ) → maxRegions ≤ length m → ((i : ℕ) → i < maxRegions → getD m i 0 ≡ 0) → withinLimits F ≡ true
     → folds keepJudged (F .ctrls) (start (withOps F z) m) .edges ≡ every (λ c. edgesFit F (c .1)) (F .ctrls)
 unfolding start withOps withNodes withRegions withParams withConsts headed keepFunc
 edges-judged F {z} c m n h l =
-    edges-from (stored-func F c) l (F .ctrls) (start (withOps F z) m) ready (record { size = n; low = λ i. omega (arith, h i) }) refl
+    edges-from (stored-func F c) l (F .ctrls) (start (withOps F z) m) ready (record { size = n; low = λ i k. omega (arith, h i k) }) refl
   where
     ready : AddsReady (withOps F z)
     ready =

@@ -9,7 +9,7 @@ use Rattle.lifting.specs.Whole.{end}
 use Rattle.lifting.specs.Ast.{ControlInst}
 use Rattle.lifting.specs.Grammar.{ctrlLines}
 use Rattle.func.specs.Store.{folds}
-use Rattle.read_lines.specs.Lines.{Passed}
+use Rattle.read_lines.specs.Lines.{LinesPassed}
 use Rattle.read_ctrls.specs.declared.CtrlRead.{CtrlRead}
 use Rattle.read_ctrls.specs.declared.CtrlRead.the-variants as line
 use Rattle.read_ctrls.specs.declared.CtrlsRead.{CtrlsRead}
@@ -19,7 +19,7 @@ use Rattle.read_ctrls.specs.Answers.{stateAt}
 
 -- lines up to a place
 abbrev pub LinesAre : CtrlRead → List ℕ → ℕ → List ℕ → List ℕ → List ℕ → List ℕ → Type 0
-LinesAre (line.Read j c) text from w m v n = Passed ctrlLines end keepJudged text from (start w m) (c .at) (stateAt v n j)
+LinesAre (line.Read j c) text from w m v n = LinesPassed ctrlLines end keepJudged text from (start w m) (c .at) (stateAt v n j)
 LinesAre line.Refused text from w m v n = ctrlLines .read (drop from text) ≡ none
 
 -- the rest of the text is ctrl lines: from the words w and the marks m they make the words v, and this is how they were judged

@@ -1,10 +1,10 @@
 // K of a ctrl line, and the lists behind it.
 use func::CtrlKind;
 use func_pools::TARGETS;
-use read_cursor::Control;
 use read_cursor::Cursor;
-use read_cursor::Selection;
 use read_cursor::Step;
+use read_insts::Control;
+use read_insts::Selection;
 use read_lines::Element;
 use read_lines::elements::form;
 use read_lines::elements::list;
@@ -12,12 +12,12 @@ ghost use mathlib.Core.Path.{_≡_};
 ghost use Prim.Native.Nat.{_≤_};
 ghost use lib.ListN.{length};
 ghost use Rattle.lifting.specs.Codec.{seq};
-ghost use Rattle.lifting.specs.Grammar.{closed, imms};
+ghost use Rattle.lifting.specs.Grammar.{closed, immsCodec};
 ghost use Rattle.func.specs.Layout.{funcNeed};
 ghost use Rattle.read_cursor.specs.Answers.{stepOf};
 ghost use Rattle.read_lines.specs.Stores.{Stores};
 ghost use Rattle.read_ctrls.specs.Tails.{ctrlLists, ctrlRest};
-ghost use Rattle.read_ctrls.specs.Answers.{kindOf, opcodeIn, keepForms, keepInstForms, keepLists};
+ghost use Rattle.read_ctrls.specs.Answers.{kindOf, keepForms, keepInstForms, keepLists};
 
 // K as the function slice has it.
 pub fn kind_of(kind: Control) -> CtrlKind
@@ -31,22 +31,6 @@ pub fn kind_of(kind: Control) -> CtrlKind
         Control::Select(k) => match k {
             Selection::Bool => CtrlKind::Bool,
             Selection::Inst(_) => CtrlKind::Inst,
-        },
-    }
-}
-
-// K's opcode, 0 without an INST: 0 fits.
-pub fn opcode_in(kind: Control) -> u32
-    ensures { λ r. ⌜ r ≡ opcodeIn kind ⌝ }
-{
-    match kind {
-        Control::Unreachable => 0,
-        Control::Return => 0,
-        Control::Branch => 0,
-        Control::Exit(n) => n,
-        Control::Select(k) => match k {
-            Selection::Bool => 0,
-            Selection::Inst(n) => n,
         },
     }
 }
@@ -66,7 +50,7 @@ fn forms(func: &mut [u32], text: &[u8], from: Cursor) -> Step
 // The same behind the immediates of an INST.
 fn inst_forms(func: &mut [u32], text: &[u8], from: Cursor) -> Step
     requires { ⌜ funcNeed ≤ length (now func) ⌝ }
-    ensures { λ r. ⌜ Stores (seq imms ctrlLists .read) keepInstForms (now (text .entry)) (from .at) (stepOf r) (now (func .entry)) (now (func .exit)) ⌝ }
+    ensures { λ r. ⌜ Stores (seq immsCodec ctrlLists .read) keepInstForms (now (text .entry)) (from .at) (stepOf r) (now (func .entry)) (now (func .exit)) ⌝ }
     ensures { λ _. ⌜ length (now (func .exit)) ≡ length (now (func .entry)) ⌝ }
 {
     let Step::On(c) = list(func, text, Element::Imm, from) else {
@@ -78,7 +62,7 @@ fn inst_forms(func: &mut [u32], text: &[u8], from: Cursor) -> Step
 // The same behind those of an exit, and its closing bracket.
 fn exit_forms(func: &mut [u32], text: &[u8], from: Cursor) -> Step
     requires { ⌜ funcNeed ≤ length (now func) ⌝ }
-    ensures { λ r. ⌜ Stores (seq (closed imms) ctrlLists .read) keepInstForms (now (text .entry)) (from .at) (stepOf r) (now (func .entry)) (now (func .exit)) ⌝ }
+    ensures { λ r. ⌜ Stores (seq (closed immsCodec) ctrlLists .read) keepInstForms (now (text .entry)) (from .at) (stepOf r) (now (func .entry)) (now (func .exit)) ⌝ }
     ensures { λ _. ⌜ length (now (func .exit)) ≡ length (now (func .entry)) ⌝ }
 {
     let Step::On(c) = list(func, text, Element::Imm, from) else {

@@ -4,20 +4,21 @@ use crate::CtrlHeadRead;
 use crate::CtrlRead;
 use crate::CtrlsRead;
 use crate::EdgesRead;
-use crate::Judged;
-use crate::entries::both;
 use crate::entries::edges;
-use crate::entries::targets_fit;
 use crate::kinds::kind_of;
 use crate::kinds::lists;
-use crate::kinds::opcode_in;
-use check_references::rules::opcode_fits;
+use check_ctrls::Judged;
+use check_ctrls::judge;
+use check_ctrls::opcode_in;
+use check_edges::targets_fit;
+use check_limits::both;
 use func::Marks;
-use read_cursor::Control;
-use read_cursor::ControlRead;
 use read_cursor::Cursor;
-use read_cursor::PairRead;
 use read_cursor::Step;
+use read_fields::PairRead;
+use read_fields::pair_after;
+use read_insts::ControlRead;
+use read_insts::controls::control;
 ghost use mathlib.Core.Path.{_≡_};
 ghost use mathlib.Core.Bool.{true, _&&_};
 ghost use Prim.Native.Nat.{_+_, _≤_, _<_};
@@ -29,19 +30,21 @@ ghost use Rattle.func.specs.Kinds.{ctrlKindNumber};
 ghost use Rattle.func.specs.Rows.{ctrlRowFrom};
 ghost use Rattle.work.specs.Layout.{workNeed};
 ghost use Rattle.read_lines.specs.Stores.{Stores};
-ghost use Rattle.read_ctrls.specs.Judge.{targetsFit, keepJudged};
+ghost use Rattle.check_edges.specs.Edges.{targetsFit};
+ghost use Rattle.read_ctrls.specs.Judge.{keepJudged};
 ghost use Rattle.read_ctrls.specs.Tails.{ctrlHead, ctrlTail};
-ghost use Rattle.read_ctrls.specs.Answers.{headOf, lineOn, judgedOf, judgedWith, stateAt, kindOf, opcodeIn};
+ghost use Rattle.read_ctrls.specs.Answers.{headAnswer, lineOn, judgedOf, stateAt, kindOf};
+ghost use Rattle.check_ctrls.specs.Judged.{opcodeIn, judgedWith};
 ghost use Rattle.read_ctrls.specs.Whole.{LinesAre, CtrlsAre};
 
 // `(ctrl R A K`, an INST up to its opcode.
 fn head(text: &[u8], from: Cursor) -> CtrlHeadRead
-    ensures { λ r. ⌜ Reads (ctrlHead .read) (now (text .entry)) (from .at) (headOf r) ⌝ }
+    ensures { λ r. ⌜ Reads (ctrlHead .read) (now (text .entry)) (from .at) (headAnswer r) ⌝ }
 {
-    let PairRead::Pair(region, attrs, c) = from.pair_after(text, b"(ctrl") else {
+    let PairRead::Pair(region, attrs, c) = pair_after(text, from, b"(ctrl") else {
         return CtrlHeadRead::Other;
     };
-    let ControlRead::Kind(kind, d) = c.control(text) else {
+    let ControlRead::Kind(kind, d) = control(text, c) else {
         return CtrlHeadRead::Other;
     };
     CtrlHeadRead::Read(
@@ -52,19 +55,6 @@ fn head(text: &[u8], from: Cursor) -> CtrlHeadRead
         },
         d,
     )
-}
-
-// One more line, whose edges fit or not.
-fn judge(seen: Judged, kind: Control, edges: bool) -> Judged
-    requires { ⌜ seen .line < maxBytes ⌝ }
-    ensures { λ r. ⌜ r ≡ judgedWith seen kind edges ⌝ }
-{
-    let fits = opcode_fits(opcode_in(kind));
-    Judged {
-        line: seen.line + 1,
-        opcodes: both(seen.opcodes, fits),
-        edges: both(seen.edges, edges),
-    }
 }
 
 // A line whose lists began at `start` and ended at `end`, and whose entries fit or not: its row, and the judgement.

@@ -8,8 +8,8 @@ use mathlib.Core.Option.{none, some}
 use mathlib.Core.Logic.{_⊎_, inl, inr}
 use Prim.Native.Nat.{ℕ}
 use Rattle.lifting.specs.Digits.{Reading}
-use Rattle.lifting.specs.Codec.{Codec, Led, then, then-then, strip, lit, both, second, seq, view, same, left, right, readAlt, alt}
-use Rattle.lifting.specs.Grammar.{before, after}
+use Rattle.lifting.specs.Codec.{Codec, Led, then, then-then, strip, lit, bothOf, second, seq, viewAs, same, left, right, readAlt, alt}
+use Rattle.lifting.specs.Grammar.{before, afterWord}
 
 -- what the head found, and then the rest
 abbrev pub goOn : {A X : Type 0} → Reading X → (X → List ℕ → Reading A) → Reading A
@@ -32,25 +32,25 @@ begins-self C = record { is = λ t. sym (then-nothing (C .read t)) }
 -- a literal before, and a literal after
 module _ {A X : Type 0} {C : Codec A} {H : Codec X} {k : X → List ℕ → Reading A} (s : List ℕ) (h : Led s) (b : Begins C H k) where
   pub begins-before : Begins (before s h C) (before s h H) k
-  unfolding before lit seq same view
+  unfolding before lit seq same viewAs
   begins-before = record { is = λ t. simp (then-then, b .is, then-nothing) }
 
-  pub begins-after : Begins (after C s h) H (λ x u. then (k x u) (λ y. then (strip s (y .1)) (λ r. some (y .0, r))))
-  unfolding after lit seq same view
+  pub begins-after : Begins (afterWord C s h) H (λ x u. then (k x u) (λ y. then (strip s (y .1)) (λ r. some (y .0, r))))
+  unfolding afterWord lit seq same viewAs
   begins-after = record { is = λ t. simp (then-then, b .is) }
 
 -- one after the other: the head of the first; or the first, and the head of the second
 pub begins-first : {A B X : Type 0} {C : Codec A} {H : Codec X} {k : X → List ℕ → Reading A} (D : Codec B) → Begins C H k
-    → Begins (seq C D) H (λ x u. then (k x u) (λ y. then (D .read (y .1)) (both (y .0))))
+    → Begins (seq C D) H (λ x u. then (k x u) (λ y. then (D .read (y .1)) (bothOf (y .0))))
 unfolding seq
 begins-first D b = record { is = λ t. simp (then-then, b .is) }
 
 pub begins-second : {A B Y : Type 0} (C : Codec A) {D : Codec B} {G : Codec Y} {l : Y → List ℕ → Reading B} → Begins D G l
-    → Begins (seq C D) (seq C G) (λ x u. then (l (x .1) u) (both (x .0)))
+    → Begins (seq C D) (seq C G) (λ x u. then (l (x .1) u) (bothOf (x .0)))
 unfolding seq
 begins-second {A} C {D} {G} {l} d = record { is = λ t. go (C .read t) }
   where
-    go : (o : Reading A) → then o (second C D) ≡ then (then o (second C G)) (λ x. then (l (x .0 .1) (x .1)) (both (x .0 .0)))
+    go : (o : Reading A) → then o (second C D) ≡ then (then o (second C G)) (λ x. then (l (x .0 .1) (x .1)) (bothOf (x .0 .0)))
     go none = refl
     go (some a) = rw (d .is (a .1)) (simp then-then)
 

@@ -1,9 +1,5 @@
--- What is read at a place of the text: numbers, fields, forms, values and the heads of lines.
+-- What is read at a place of the text, and the laws by which readers go from one step to the next.
 pub mod Laws
 pub mod Read
 pub mod Answers
-pub mod Form
-pub mod Alike
-pub mod Part
 pub mod Begins
-pub mod Heads

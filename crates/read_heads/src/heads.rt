@@ -1,8 +1,10 @@
 // Func, const and param lines.
 use read_cursor::Cursor;
 use read_cursor::NumberRead;
-use read_cursor::PairRead;
 use read_cursor::Step;
+use read_fields::PairRead;
+use read_fields::field;
+use read_fields::two;
 ghost use mathlib.Core.Path.{_≡_};
 ghost use Prim.Native.Nat.{_≤_};
 ghost use lib.ListN.{length};
@@ -19,13 +21,13 @@ pub fn func_line(func: &mut [u32], text: &[u8], from: Cursor) -> Step
     ensures { λ r. ⌜ Stores (funcTail .read) keepFuncLine (now (text .entry)) (from .at) (stepOf r) (now (func .entry)) (now (func .exit)) ⌝ }
     ensures { λ _. ⌜ length (now (func .exit)) ≡ length (now (func .entry)) ⌝ }
 {
-    let NumberRead::Number(a, b) = from.field(text) else {
+    let NumberRead::Number(a, b) = field(text, from) else {
         return Step::Refused;
     };
-    let NumberRead::Number(r, c) = b.field(text) else {
+    let NumberRead::Number(r, c) = field(text, b) else {
         return Step::Refused;
     };
-    let PairRead::Pair(f, k, d) = c.two(text) else {
+    let PairRead::Pair(f, k, d) = two(text, c) else {
         return Step::Refused;
     };
     let Step::On(e) = d.word(text, b"\n") else {
@@ -41,7 +43,7 @@ pub fn const_line(func: &mut [u32], text: &[u8], from: Cursor) -> Step
     ensures { λ r. ⌜ Stores constTail keepConst (now (text .entry)) (from .at) (stepOf r) (now (func .entry)) (now (func .exit)) ⌝ }
     ensures { λ _. ⌜ length (now (func .exit)) ≡ length (now (func .entry)) ⌝ }
 {
-    let PairRead::Pair(m, n, c) = from.two(text) else {
+    let PairRead::Pair(m, n, c) = two(text, from) else {
         return Step::Refused;
     };
     let Step::On(d) = c.word(text, b"\n") else {
@@ -57,7 +59,7 @@ pub fn param_line(func: &mut [u32], text: &[u8], from: Cursor) -> Step
     ensures { λ r. ⌜ Stores paramTail keepParam (now (text .entry)) (from .at) (stepOf r) (now (func .entry)) (now (func .exit)) ⌝ }
     ensures { λ _. ⌜ length (now (func .exit)) ≡ length (now (func .entry)) ⌝ }
 {
-    let PairRead::Pair(m, n, c) = from.two(text) else {
+    let PairRead::Pair(m, n, c) = two(text, from) else {
         return Step::Refused;
     };
     let Step::On(d) = c.word(text, b"\n") else {

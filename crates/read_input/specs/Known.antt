@@ -12,13 +12,13 @@ use lib.ListN.{length}
 use lib.Seq.{take-append-seam}
 use borrow.Author.Tests.{le-ltb, le-leb, leb-true, lt-leb, lt-ltb, ltb-false}
 use Rattle.lifting.specs.Answer.{parse}
-use Rattle.read_cursor.specs.Read.{Reads, rest}
+use Rattle.read_cursor.specs.Read.{Reads, restFrom}
 use Rattle.command.specs.declared.Command.{Command}
 use Rattle.command.specs.declared.Command.the-variants.{Lift, Read, Blocks, Help, Unknown}
-use Rattle.print_list.specs.declared.First.{First}
-use Rattle.print_list.specs.declared.First.the-variants.{At, Bad}
-use Rattle.print_list.specs.Opening.{firstLine, firstOf}
-use Rattle.print_list.specs.Cut.{ByText, bad-stays, input-more, inputRoom, longestLine, parse-cut, textRoom}
+use Rattle.read_first.specs.declared.First.{First}
+use Rattle.read_first.specs.declared.First.the-variants.{At, Bad}
+use Rattle.read_first.specs.Opening.{firstLineForm, firstAnswer}
+use Rattle.read_first.specs.Cut.{ByText, bad-stays, input-more, inputRoom, longestLine, parse-cut, textRoom}
 
 -- a bad first line
 abbrev pub isBad : Option (ℕ × List ℕ) → Bool
@@ -27,17 +27,17 @@ isBad (some x) = false
 
 -- Enough bytes for the longest first line, and either enough for all that decides, or no first line among them.
 unfoldable pub knownBy : List ℕ → Bool
-unfolding firstLine
-knownBy input = cond (ltb (length input) longestLine) false (cond (leb inputRoom (length input)) true (isBad (firstLine .read input)))
+unfolding firstLineForm
+knownBy input = cond (ltb (length input) longestLine) false (cond (leb inputRoom (length input)) true (isBad (firstLineForm .read input)))
 
 -- What is told of an input's first line and text is known then: nothing that follows changes it.
 pub known-decides : {A : Type 0} (g : Option (ℕ × List ℕ) → A) → ByText g → (input : List ℕ) → knownBy input ≡ true
-    → (more : List ℕ) → g (firstLine .read input) ≡ g (firstLine .read (input ++ more))
+    → (more : List ℕ) → g (firstLineForm .read input) ≡ g (firstLineForm .read (input ++ more))
 unfolding knownBy
-known-decides g byText input known more = go (ltb (length input) longestLine) refl (leb inputRoom (length input)) refl (firstLine .read input) refl known
+known-decides g byText input known more = go (ltb (length input) longestLine) refl (leb inputRoom (length input)) refl (firstLineForm .read input) refl known
   where
-    go : (a : Bool) → ltb (length input) longestLine ≡ a → (b : Bool) → leb inputRoom (length input) ≡ b → (o : Option (ℕ × List ℕ)) → firstLine .read input ≡ o
-        → cond a false (cond b true (isBad o)) ≡ true → g (firstLine .read input) ≡ g (firstLine .read (input ++ more))
+    go : (a : Bool) → ltb (length input) longestLine ≡ a → (b : Bool) → leb inputRoom (length input) ≡ b → (o : Option (ℕ × List ℕ)) → firstLineForm .read input ≡ o
+        → cond a false (cond b true (isBad o)) ≡ true → g (firstLineForm .read input) ≡ g (firstLineForm .read (input ++ more))
     go true short b e o f k = absurd (true≢false (sym k))
     go false long true e o f k = input-more g byText input more (leb-true inputRoom (length input) e)
     go false long false e none f k = ap g (f ∙ sym (bad-stays input more (ltb-false (length input) longestLine long) f))
@@ -72,7 +72,7 @@ unfolding textKnown
 text-enough text h = sym (le-leb textRoom (length text) h)
 
 abbrev tests : List ℕ → Bool → Bool → Bool
-tests input short enough = cond short false (cond enough true (isBad (firstLine .read input)))
+tests input short enough = cond short false (cond enough true (isBad (firstLineForm .read input)))
 
 module _ (input : List ℕ) where
   known-is : (a b : Bool) → ltb (length input) longestLine ≡ a → leb inputRoom (length input) ≡ b → knownBy input ≡ tests input a b
@@ -86,12 +86,12 @@ module _ (input : List ℕ) where
     pub known-enough : inputRoom ≤ length input → true ≡ knownBy input
     known-enough h = sym (known-is false true (le-ltb (length input) longestLine long) (le-leb inputRoom (length input) h))
 
-    module _ (few : length input < inputRoom) (r : First) (reads : Reads (firstLine .read) input 0 (firstOf r)) where
-      by-line : {x : First} → r ≡ x → isBad (rest input (firstOf x)) ≡ knownBy input
+    module _ (few : length input < inputRoom) (r : First) (reads : Reads (firstLineForm .read) input 0 (firstAnswer r)) where
+      by-line : {x : First} → r ≡ x → isBad (restFrom input (firstAnswer x)) ≡ knownBy input
       by-line e =
           sym
           (known-is false false (le-ltb (length input) longestLine long) (lt-leb inputRoom (length input) few)
-          ∙ ap isBad (reads .is ∙ ap (λ (y : First). rest input (firstOf y)) e))
+          ∙ ap isBad (reads .is ∙ ap (λ (y : First). restFrom input (firstAnswer y)) e))
 
       pub known-bad : r ≡ Bad → true ≡ knownBy input
       known-bad = by-line

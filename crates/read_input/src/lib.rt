@@ -1,14 +1,14 @@
 // How much of its input a program reads: as much as decides what it prints. What a read gives no contract can say, so the decision is a function
 // of the bytes that were read, and the room for them is asked of the caller.
 use command::Command;
-use print_list::First;
-use print_list::first_line;
+use read_first::First;
+use read_first::first_line;
 use refusals::limits::MAX_BYTES;
 ghost use mathlib.Core.Path.{_≡_};
 ghost use Prim.Native.Nat.{_+_, _≤_};
 ghost use lib.ListN.{length};
 ghost use Rattle.io.specs.Counts.{Counts};
-ghost use Rattle.print_list.specs.Cut.{inputRoom};
+ghost use Rattle.read_first.specs.Cut.{inputRoom};
 ghost use Rattle.read_input.specs.Known.{knownBy, knownFor, textKnown};
 
 // The bytes of the longest line `(first N)`.

@@ -8,18 +8,18 @@ use Prim.Native.Nat.{ℕ}
 use Rattle.lifting.specs.Ast
 use Rattle.lifting.specs.Ast.{Value, Imm, Decl, Node, block, call, ext, boolCond}
 use Rattle.lifting.specs.Codec.{seq}
-use Rattle.lifting.specs.Grammar.{imms, values}
+use Rattle.lifting.specs.Grammar.{immsCodec, valuesCodec}
 use Rattle.lifting.specs.Parts.{childrenOf, outsOf, nodeValues, nodeInsts, opInsts, blockOps}
 use Rattle.read_cursor.specs.Read.{Took, Denied}
-use Rattle.read_cursor.specs.declared.Selection.{Selection}
-use Rattle.read_cursor.specs.declared.Selection.the-variants as sel
+use Rattle.read_insts.specs.declared.Selection.{Selection}
+use Rattle.read_insts.specs.declared.Selection.the-variants as sel
 use Rattle.func.specs.declared.OpKind.{OpKind}
 use Rattle.func.specs.declared.OpKind.the-variants as op
 use Rattle.func.specs.Store.{folds}
-use Rattle.func.specs.Keep.{immsOf, keepHead, keepDecl, keepValue, keepImm, keepNodeRef, keepOpRef, keepChild, keepRegion, keepNode, keepOp}
+use Rattle.func.specs.Keep.{instImms, keepHead, keepDecl, keepValue, keepImm, keepNodeRef, keepOpRef, keepChild, keepRegion, keepNode, keepOp}
 use Rattle.func.specs.Rows.{marksOf, regionRow, nodeRow, opRow, keepRegion-is, keepNode-is, keepOp-is}
 use Rattle.read_lines.specs.Stores.{Stores, up-row, waits-row, waits-denied, waits-refused}
-use Rattle.read_lines.specs.Tails.{toRegion, control, controlled, toLoop, toExit, ended, instValues, selectLists, toSelect, toSelectInst, selectRest, toOp, toOpInst, opRest}
+use Rattle.read_lines.specs.Tails.{toRegion, control, controlled, toLoop, toExit, endedBy, instValues, selectLists, toSelect, toSelectInst, selectRest, opOfTail, toOpInst, opRest}
 
 abbrev pub keepFuncLine : ℕ × (ℕ × (ℕ × ℕ)) → List ℕ → List ℕ
 keepFuncLine x w = keepHead (x .0) (x .1 .0) (x .1 .1 .0) (x .1 .1 .1) w
@@ -46,10 +46,10 @@ keepSelectLists x w = keepSelectRest (x .1) (keepValue (x .0) w)
 abbrev pub keepNodeLists : (ℕ → Node) → List ℕ → List ℕ
 keepNodeLists g w =
     let n = g 0 in
-    folds keepDecl (outsOf n) (folds keepChild (childrenOf n) (folds keepOpRef (blockOps n) (folds keepValue (nodeValues n) (folds keepImm (immsOf (nodeInsts n)) w))))
+    folds keepDecl (outsOf n) (folds keepChild (childrenOf n) (folds keepOpRef (blockOps n) (folds keepValue (nodeValues n) (folds keepImm (instImms (nodeInsts n)) w))))
 
 abbrev pub keepOpLists : Ast.Op → List ℕ → List ℕ
-keepOpLists o w = folds keepValue (o .operands) (folds keepImm (immsOf (opInsts (o .kind))) w)
+keepOpLists o w = folds keepValue (o .operands) (folds keepImm (instImms (opInsts (o .kind))) w)
 
 -- the rows
 pub region-row : (w : List ℕ) (x : List Decl × (List ℕ × List Value)) → keepRegion (toRegion x) w ≡ regionRow (marksOf w) (keepRegionLists x w)
@@ -91,16 +91,16 @@ module _ {text : List ℕ} {at : ℕ} {w u v : List ℕ} where
       → v ≡ nodeRow (marksOf w) (selectNumber k) (selectOpcode k) c u → Stores (λ t. controlled (selectRest k t)) keepNode text at (some (tt, next)) w v
   rest-row sel.Bool {c = c} s t e = waits-row (selectLists .read) (toSelect boolCond) control (nodeRow (marksOf w) 1 0) (λ x. keepNode-is (toSelect boolCond x c) w) s t e
   rest-row (sel.Inst n) {c = c} s t e =
-      waits-row (seq imms selectLists .read) (toSelectInst n) control (nodeRow (marksOf w) 2 n) (λ x. keepNode-is (toSelectInst n x c) w) s t e
+      waits-row (seq immsCodec selectLists .read) (toSelectInst n) control (nodeRow (marksOf w) 2 n) (λ x. keepNode-is (toSelectInst n x c) w) s t e
 
   pub rest-denied : (k : Selection) {mid : ℕ} → Stores (selectRest k) keepNodeLists text at (some (tt, mid)) w u → Denied (control .read) text mid
       → Stores (λ t. controlled (selectRest k t)) keepNode text at none w v
   rest-denied sel.Bool s t = waits-denied (selectLists .read) (toSelect boolCond) control s t
-  rest-denied (sel.Inst n) s t = waits-denied (seq imms selectLists .read) (toSelectInst n) control s t
+  rest-denied (sel.Inst n) s t = waits-denied (seq immsCodec selectLists .read) (toSelectInst n) control s t
 
   pub rest-refused : (k : Selection) → Stores (selectRest k) keepNodeLists text at none w u → Stores (λ t. controlled (selectRest k t)) keepNode text at none w v
   rest-refused sel.Bool s = waits-refused (selectLists .read) (toSelect boolCond) control s
-  rest-refused (sel.Inst n) s = waits-refused (seq imms selectLists .read) (toSelectInst n) control s
+  rest-refused (sel.Inst n) s = waits-refused (seq immsCodec selectLists .read) (toSelectInst n) control s
 
 -- the row of an op goes by its head
 pub op-inst : (w : List ℕ) (a t n : ℕ) (x : List Imm × List Value) → keepOpLists (toOpInst a t n x) w ≡ keepInstValues x w
@@ -109,5 +109,5 @@ op-inst w a t n x = ap (λ (is : List Imm). folds keepValue (x .1) (folds keepIm
 pub op-row : (a t : ℕ) (k : OpKind) {text : List ℕ} {at next : ℕ} {w u v : List ℕ} → Stores (opRest a t k) keepOpLists text at (some (tt, next)) w u
     → v ≡ opRow (marksOf w) a t k u → Stores (opRest a t k) keepOp text at (some (tt, next)) w v
 op-row a t (op.Inst n) {w = w} s e = up-row (instValues .read) (toOpInst a t n) (opRow (marksOf w) a t (op.Inst n)) (λ x. keepOp-is (toOpInst a t n x) w) s e
-op-row a t (op.Call n) {w = w} s e = up-row (ended values .read) (toOp a t (call n)) (opRow (marksOf w) a t (op.Call n)) (λ x. keepOp-is (toOp a t (call n) x) w) s e
-op-row a t (op.Ext m n) {w = w} s e = up-row (ended values .read) (toOp a t (ext m n)) (opRow (marksOf w) a t (op.Ext m n)) (λ x. keepOp-is (toOp a t (ext m n) x) w) s e
+op-row a t (op.Call n) {w = w} s e = up-row (endedBy valuesCodec .read) (opOfTail a t (call n)) (opRow (marksOf w) a t (op.Call n)) (λ x. keepOp-is (opOfTail a t (call n) x) w) s e
+op-row a t (op.Ext m n) {w = w} s e = up-row (endedBy valuesCodec .read) (opOfTail a t (ext m n)) (opRow (marksOf w) a t (op.Ext m n)) (λ x. keepOp-is (opOfTail a t (ext m n) x) w) s e

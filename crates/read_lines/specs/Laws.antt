@@ -11,46 +11,46 @@ use native.Mathlib.Omega.{arith}
 use lib.ListN.{length, drop}
 use Rattle.lifting.specs.Bytes.{bytes}
 use Rattle.lifting.specs.Digits.{Reading}
-use Rattle.lifting.specs.Codec.{Codec, then-then, lit, seq, view, same}
-use Rattle.lifting.specs.Grammar.{before, after, sub}
-use Rattle.read_cursor.specs.Read.{Onward, Reads, Took, Denied, literal, behind}
+use Rattle.lifting.specs.Codec.{Codec, then-then, lit, seq, viewAs, same}
+use Rattle.lifting.specs.Grammar.{before, afterWord, sub}
+use Rattle.read_cursor.specs.Read.{Onward, Reads, Took, Denied, literal, behindLiteral}
 use Rattle.read_cursor.specs.Begins.{then-nothing}
-use Rattle.read_cursor.specs.Laws.{onward, strip-is, strip-not}
-use Rattle.read_lines.specs.Stores.{Stores, stored, further, refused, stores-one, stores-none, after-stored, after-refused}
-use Rattle.read_lines.specs.Tails.{lastForm, ended}
+use Rattle.read_cursor.specs.Laws.{onward-both, strip-is, strip-not}
+use Rattle.read_lines.specs.Stores.{Stores, storedBy, further, stores-refused, stores-one, stores-none, after-stored, after-refused}
+use Rattle.read_lines.specs.Tails.{lastForm, endedBy}
 
 pub less : {text : List ℕ} {at next : ℕ} → Onward text at next → length text - next < length text - at
 less m = omega (arith, m .moved, m .fits)
 
 -- behind a word
 module _ {A S : Type 0} (s : List ℕ) (read : List ℕ → Reading A) {f : A → S → S} {text : List ℕ} {at : ℕ} {w v : S} where
-  pub behind-took : {mid : ℕ} {found : Option (Unit {0} × ℕ)} → Took (literal s) text at tt mid → Stores read f text mid found w v → Stores (behind s read) f text at found w v
+  pub behind-took : {mid : ℕ} {found : Option (Unit {0} × ℕ)} → Took (literal s) text at tt mid → Stores read f text mid found w v → Stores (behindLiteral s read) f text at found w v
   behind-took {found = found} p q = record { is = rw (strip-is s p) (q .is); moves = further text (p .moves .moved) found (q .moves) }
 
-  pub behind-denied : Denied (literal s) text at → Stores (behind s read) f text at none w v
+  pub behind-denied : Denied (literal s) text at → Stores (behindLiteral s read) f text at none w v
   behind-denied p = record { is = rw (strip-not s p); moves = tt }
 
 -- ` (s ..`
 pub as-sub : {A S : Type 0} (s : String) (C : Codec A) {f : A → S → S} {text : List ℕ} {at : ℕ} {found : Option (Unit {0} × ℕ)} {w v : S}
-    → Stores (behind (bytes " (" ++ bytes s) (C .read)) f text at found w v → Stores (sub s C .read) f text at found w v
-unfolding sub before lit seq same view
+    → Stores (behindLiteral (bytes " (" ++ bytes s) (C .read)) f text at found w v → Stores (sub s C .read) f text at found w v
+unfolding sub before lit seq same viewAs
 as-sub s C {f} {text} {at} {w = w} q =
-    let e : sub s C .read (drop at text) ≡ behind (bytes " (" ++ bytes s) (C .read) (drop at text) = simp (then-then, then-nothing) in
-    record { is = ap (stored f w) e ∙ q .is; moves = q .moves }
+    let e : sub s C .read (drop at text) ≡ behindLiteral (bytes " (" ++ bytes s) (C .read) (drop at text) = simp (then-then, then-nothing) in
+    record { is = ap (storedBy f w) e ∙ q .is; moves = q .moves }
 
 -- what ends a line is only read
 module _ {A : Type 0} (C : Codec A) {text : List ℕ} {at : ℕ} where
   pub last-misses : Denied (C .read) text at → Denied (lastForm C .read) text at
-  unfolding lastForm after lit seq same view
+  unfolding lastForm afterWord lit seq same viewAs
   last-misses p = record { is = rw (p .is); moves = tt }
 
   pub last-open : {a : A} {mid : ℕ} → Took (C .read) text at a mid → Denied (literal (bytes ")\n")) text mid → Denied (lastForm C .read) text at
-  unfolding lastForm after lit seq same view
+  unfolding lastForm afterWord lit seq same viewAs
   last-open p q = record { is = rw (p .is, q .is); moves = tt }
 
   pub last-reads : {a : A} {mid next : ℕ} → Took (C .read) text at a mid → Took (literal (bytes ")\n")) text mid tt next → Took (lastForm C .read) text at a next
-  unfolding lastForm after lit seq same view
-  last-reads p q = record { is = rw (p .is, q .is); moves = onward (p .moves) (q .moves) }
+  unfolding lastForm afterWord lit seq same viewAs
+  last-reads p q = record { is = rw (p .is, q .is); moves = onward-both (p .moves) (q .moves) }
 
 -- what ends a line
 module _ {A S : Type 0} (C : Codec A) {f : A → S → S} {text : List ℕ} {at : ℕ} {w v : S} where
@@ -58,8 +58,8 @@ module _ {A S : Type 0} (C : Codec A) {f : A → S → S} {text : List ℕ} {at 
   unfolding lastForm
   last-refused p = after-refused C (bytes ")\n") refl p
 
-  pub ended-refused : Stores (C .read) f text at none w v → Stores (ended C .read) f text at none w v
-  unfolding ended
+  pub ended-refused : Stores (C .read) f text at none w v → Stores (endedBy C .read) f text at none w v
+  unfolding endedBy
   ended-refused p = after-refused C (bytes "\n") refl p
 
   pub last-stored : {mid : ℕ} {found : Option (Unit {0} × ℕ)} → Stores (C .read) f text at (some (tt, mid)) w v → Reads (literal (bytes ")\n")) text mid found
@@ -68,12 +68,12 @@ module _ {A S : Type 0} (C : Codec A) {f : A → S → S} {text : List ℕ} {at 
   last-stored p q = after-stored C (bytes ")\n") refl p q
 
   pub ended-stored : {mid : ℕ} {found : Option (Unit {0} × ℕ)} → Stores (C .read) f text at (some (tt, mid)) w v → Reads (literal (bytes "\n")) text mid found
-      → Stores (ended C .read) f text at found w v
-  unfolding ended
+      → Stores (endedBy C .read) f text at found w v
+  unfolding endedBy
   ended-stored p q = after-stored C (bytes "\n") refl p q
 
   -- it is read and not stored, since the line does not end there
-  pub ended-denied : {a : A} {mid : ℕ} → Took (C .read) text at a mid → Denied (literal (bytes "\n")) text mid → Stores (ended C .read) f text at none w v
-  unfolding ended
+  pub ended-denied : {a : A} {mid : ℕ} → Took (C .read) text at a mid → Denied (literal (bytes "\n")) text mid → Stores (endedBy C .read) f text at none w v
+  unfolding endedBy
   ended-denied p q =
-      stores-none (record { is = refused (after-stored {S = Unit {0}} C (bytes "\n") refl {f = λ a z. z} {w = tt} (stores-one p refl) q); moves = tt })
+      stores-none (record { is = stores-refused (after-stored {S = Unit {0}} C (bytes "\n") refl {f = λ a z. z} {w = tt} (stores-one p refl) q); moves = tt })

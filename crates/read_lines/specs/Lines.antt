@@ -2,7 +2,7 @@
 -- what was to be stored from where it began, with these lines stored. Assumes nothing.
 --     linesIn                  what a text holds from a place to its end, with the lines of one kind stored
 --     Kind, kind-of            a line of the kind is told by its head, with which no later line begins
---     Passed, Lined            the lines of a kind are over, or one of them is wrong
+--     LinesPassed, Lined            the lines of a kind are over, or one of them is wrong
 --     passed-some, passed-none the lines and the rest are read exactly if the rest is
 --     Going, going-..          the head of the loop
 use mathlib.Core.Path.{_≡_, refl, ap, _∙_}
@@ -18,7 +18,7 @@ use Rattle.read_cursor.specs.Begins.{Begins, goOn}
 use Rattle.read_cursor.specs.declared.Step.{Step}
 use Rattle.read_cursor.specs.declared.Step.the-variants as step
 use Rattle.func.specs.Store.{folds}
-use Rattle.read_lines.specs.Stores.{Stores, refused, taken}
+use Rattle.read_lines.specs.Stores.{Stores, stores-refused, stores-taken}
 
 -- what was read to the end of the text: the lines stored by k, and the rest as it is
 abbrev pub linesIn : {A B S : Type 0} → (A → S → S) → S → Option ((List A × B) × Unit {0}) → Option (B × S)
@@ -57,14 +57,14 @@ pub record Going {A B S : Type 0} (size : S → ℕ) (W : Whole (List A × B)) (
   pub len : size v ≡ size w
 
 -- the lines are over: the rest of the text is what comes after them
-pub record Passed {A B S : Type 0} (W : Whole (List A × B)) (D : Whole B) (k : A → S → S) (text : List ℕ) (from : ℕ) (w : S) (at : ℕ) (v : S) : Type 0 where
+pub record LinesPassed {A B S : Type 0} (W : Whole (List A × B)) (D : Whole B) (k : A → S → S) (text : List ℕ) (from : ℕ) (w : S) (at : ℕ) (v : S) : Type 0 where
   pub is : linesIn k w (W .read (drop from text)) ≡ restIn v (D .read (drop at text))
   pub ahead : from ≤ at
   pub fits : at ≤ length text
 
 -- what the loop answers
 abbrev pub Lined : {A B S : Type 0} → Whole (List A × B) → Whole B → (A → S → S) → List ℕ → ℕ → Step → S → S → Type 0
-Lined W D k text from (step.On c) w v = Passed W D k text from w (c .at) v
+Lined W D k text from (step.On c) w v = LinesPassed W D k text from w (c .at) v
 Lined W D k text from step.Refused w v = W .read (drop from text) ≡ none
 
 pub going-first : {A B S : Type 0} {size : S → ℕ} {W : Whole (List A × B)} {k : A → S → S} {text : List ℕ} {from : ℕ} {w : S} → from ≤ length text → Going size W k text from w from w
@@ -82,7 +82,7 @@ lines-some {A} {B} {S} k w v b (some ((xs, c), u)) e =
     let i : _≡_ {A = B × S} (c, folds k xs w) (b, v) = Option·some-injective _ _ e in
     (xs, ap (λ (y : B × S). some ((xs, y .0), tt)) i, ap (λ (y : B × S). y .1) i)
 
-module _ {A B S : Type 0} {W : Whole (List A × B)} {D : Whole B} {k : A → S → S} {text : List ℕ} {from at : ℕ} {w v : S} (p : Passed W D k text from w at v) where
+module _ {A B S : Type 0} {W : Whole (List A × B)} {D : Whole B} {k : A → S → S} {text : List ℕ} {from at : ℕ} {w v : S} (p : LinesPassed W D k text from w at v) where
   -- the lines were read, if the rest is
   pub passed-some : (b : B) → D .read (drop at text) ≡ some (b, tt) → (xs : List A) × (W .read (drop from text) ≡ some ((xs, b), tt)) × (folds k xs w ≡ v)
   passed-some b e = lines-some k w v b (W .read (drop from text)) (p .is ∙ ap (restIn v) e)
@@ -97,7 +97,7 @@ module _ {A B X S : Type 0} {W : Whole (List A × B)} {D : Whole B} {head : List
   pub going-more : {x : X} {mid next : ℕ} {u : S} → Took head text at x mid → Stores (tail x) k text mid (some (tt, next)) v u → size u ≡ size v → Going size W k text from w next u
   unfolding folds
   going-more {x} {mid} {next} {u} p s l = record {
-    is = let t = taken s in
+    is = let t = stores-taken s in
         a .is
         ∙ ap (linesIn k v) (K .more (drop at text) x (drop mid text) (t .0) (drop next text) (p .is) (t .1))
         ∙ by-found (t .0) (t .2) (W .read (drop next text));
@@ -111,7 +111,7 @@ module _ {A B X S : Type 0} {W : Whole (List A × B)} {D : Whole B} {head : List
       by-found y e (some z) = ap (λ (m : S). some (z .0 .1, folds k (z .0 .0) m)) e
 
   -- the next line is of another kind
-  pub going-over : Denied head text at → Passed W D k text from w at v
+  pub going-over : Denied head text at → LinesPassed W D k text from w at v
   unfolding folds
   going-over p = record {
     is = a .is ∙ ap (linesIn k v) (K .over (drop at text) (p .is)) ∙ by-found (D .read (drop at text));
@@ -126,4 +126,4 @@ module _ {A B X S : Type 0} {W : Whole (List A × B)} {D : Whole B} {head : List
   -- the next line is of this kind by its head, and is wrong
   pub going-wrong : {x : X} {mid : ℕ} {u : S} → Took head text at x mid → Stores (tail x) k text mid none v u → W .read (drop from text) ≡ none
   going-wrong {x} {mid} p s =
-      lines-none k w (W .read (drop from text)) (a .is ∙ ap (linesIn k v) (K .wrong (drop at text) x (drop mid text) (p .is) (refused s)))
+      lines-none k w (W .read (drop from text)) (a .is ∙ ap (linesIn k v) (K .wrong (drop at text) x (drop mid text) (p .is) (stores-refused s)))

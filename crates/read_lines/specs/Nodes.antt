@@ -8,18 +8,18 @@ use mathlib.Core.Logic.{_⊎_, inl, inr}
 use Prim.Native.Nat.{ℕ}
 use Rattle.lifting.specs.Bytes.{bytes}
 use Rattle.lifting.specs.Digits.{Reading}
-use Rattle.lifting.specs.Codec.{Codec, then, then-then, both, second, up, strip, lit, seq, view, same, alt}
+use Rattle.lifting.specs.Codec.{Codec, then, then-then, bothOf, second, up, strip, lit, seq, viewAs, same, alt}
 use Rattle.lifting.specs.Ast.{Value, Imm, Inst, SelectionKind, Decl, Node, exit}
-use Rattle.lifting.specs.Grammar.{before, closed, line, field, numbers, values, imms, instForm, selKind, blockLine, selectLine, loopLine, exitLine, nodeForm, nodeLine}
+use Rattle.lifting.specs.Grammar.{before, closed, line, field, numbersCodec, valuesCodec, immsCodec, instForm, selKind, blockLine, selectLine, loopLine, exitLine, nodeForm, nodeLine}
 use Rattle.read_cursor.specs.Begins.{goOn, Begins, oneRest, begins-alt}
-use Rattle.read_cursor.specs.Heads.{instHead, instRest, inst-begins, selectionHead, selectionRest, selection-begins}
-use Rattle.read_cursor.specs.declared.Selection.{Selection}
-use Rattle.read_cursor.specs.declared.Selection.the-variants as sel
+use Rattle.read_insts.specs.Heads.{instHead, instRest, inst-begins, selectionHead, selectionRest, selection-begins}
+use Rattle.read_insts.specs.declared.Selection.{Selection}
+use Rattle.read_insts.specs.declared.Selection.the-variants as sel
 use Rattle.read_lines.specs.declared.NodeWord.{NodeWord}
 use Rattle.read_lines.specs.declared.NodeWord.the-variants.{Block, Select, Loop, Exit}
 use Rattle.read_lines.specs.declared.NodeWordRead.{NodeWordRead}
 use Rattle.read_lines.specs.declared.NodeWordRead.the-variants.{Word, Other}
-use Rattle.read_lines.specs.Tails.{ended, begins-line, begins-alike, last-alike, last-seq, ended-seq, second-alike, blockTail, control, controlled, loopLists, toLoop, loopTail, instValues, exitTail, toExit, selectForms, selectLists, toSelect, selectRest, selectTail}
+use Rattle.read_lines.specs.Tails.{endedBy, begins-line, begins-alike, last-alike, last-seq, ended-seq, second-alike, blockTail, control, controlled, loopLists, toLoop, loopTail, instValues, exitTail, toExit, selectForms, selectLists, toSelect, selectRest, selectTail}
 
 abbrev pub nodeWordOf : NodeWordRead → Option (NodeWord × ℕ)
 nodeWordOf (Word w c) = some (w, c .at)
@@ -71,7 +71,7 @@ abbrev instOf : ℕ → List Imm → Inst
 instOf n is = record { opcode = n; imms = is }
 
 -- lists behind a head, and the control number last
-lists-alike : {A B : Type 0} (C : Codec A) (L : Codec B) (t : List ℕ) → ended (closed (seq C (seq L field))) .read t ≡ seq C (seq L control) .read t
+lists-alike : {A B : Type 0} (C : Codec A) (L : Codec B) (t : List ℕ) → endedBy (closed (seq C (seq L field))) .read t ≡ seq C (seq L control) .read t
 unfolding control
 lists-alike C L t = last-alike (seq C (seq L field)) t ∙ last-seq C (seq L field) t ∙ second-alike C _ _ (last-seq L field) t
 
@@ -84,17 +84,17 @@ loop-begins : Begins loopLine (lit (bytes "(loop") refl) (λ u. seq field (seq l
 unfolding loopLine loopLists
 loop-begins = begins-alike (begins-line "loop" (closed (seq field (seq loopLists field)))) (λ u. lists-alike field loopLists)
 
-exit-begins : Begins exitLine (lit (bytes "(exit") refl) (λ u. seq instForm (ended values) .read)
+exit-begins : Begins exitLine (lit (bytes "(exit") refl) (λ u. seq instForm (endedBy valuesCodec) .read)
 unfolding exitLine
-exit-begins = begins-alike (begins-line "exit" (seq instForm values)) (λ u. ended-seq instForm values)
+exit-begins = begins-alike (begins-line "exit" (seq instForm valuesCodec)) (λ u. ended-seq instForm valuesCodec)
 
 form-begins : Begins nodeForm wordForm
-    (oneRest (oneRest (oneRest (λ u. ended numbers .read) (λ u. seq selKind (seq selectLists control) .read)) (λ u. seq field (seq loopLists control) .read)) (λ u. seq instForm (ended values) .read))
-unfolding nodeForm wordForm blockLine selectLine loopLine exitLine line before lit seq same view alt strip
+    (oneRest (oneRest (oneRest (λ u. endedBy numbersCodec .read) (λ u. seq selKind (seq selectLists control) .read)) (λ u. seq field (seq loopLists control) .read)) (λ u. seq instForm (endedBy valuesCodec) .read))
+unfolding nodeForm wordForm blockLine selectLine loopLine exitLine line before lit seq same viewAs alt strip
 form-begins =
     begins-alt (λ b r. refl) (λ b r. refl)
     (begins-alt (λ b r. refl) (λ b r. refl)
-    (begins-alt (λ b r. refl) (λ b r. refl) (begins-line "block" numbers) select-begins (λ x r. refl))
+    (begins-alt (λ b r. refl) (λ b r. refl) (begins-line "block" numbersCodec) select-begins (λ x r. refl))
     loop-begins first)
     exit-begins second
   where
@@ -126,26 +126,26 @@ loop-as : (t : List ℕ) → then (seq field (seq loopLists control) .read t) (u
 unfolding seq
 loop-as t = simp then-then
 
-exit-as : (t : List ℕ) → then (seq instForm (ended values) .read t) (up (λ x. exit (x .0) (x .1))) ≡ exitTail t
+exit-as : (t : List ℕ) → then (seq instForm (endedBy valuesCodec) .read t) (up (λ x. exit (x .0) (x .1))) ≡ exitTail t
 unfolding seq instValues
-exit-as t = ap (λ (o : Reading Inst). then (then o (second instForm (ended values))) (up (λ x. exit (x .0) (x .1)))) (inst-begins .is t) ∙ go (instHead .read t)
+exit-as t = ap (λ (o : Reading Inst). then (then o (second instForm (endedBy valuesCodec))) (up (λ x. exit (x .0) (x .1)))) (inst-begins .is t) ∙ go (instHead .read t)
   where
-    by-values : (n : ℕ) (is : List Imm) (o : Reading (List Value)) → then (then o (both (instOf n is))) (up (λ x. exit (x .0) (x .1)))
-        ≡ then (then (then o (both is)) (both n)) (up toExit)
+    by-values : (n : ℕ) (is : List Imm) (o : Reading (List Value)) → then (then o (bothOf (instOf n is))) (up (λ x. exit (x .0) (x .1)))
+        ≡ then (then (then o (bothOf is)) (bothOf n)) (up toExit)
     by-values n is none = refl
     by-values n is (some y) = refl
 
-    by-imms : (n : ℕ) (o : Reading (List Imm)) → then (then (then {B = Inst × List ℕ} o (λ x. some (instOf n (x .0), x .1))) (second instForm (ended values))) (up (λ x. exit (x .0) (x .1)))
-        ≡ then (then (then o (second imms (ended values))) (both n)) (up toExit)
+    by-imms : (n : ℕ) (o : Reading (List Imm)) → then (then (then {B = Inst × List ℕ} o (λ x. some (instOf n (x .0), x .1))) (second instForm (endedBy valuesCodec))) (up (λ x. exit (x .0) (x .1)))
+        ≡ then (then (then o (second immsCodec (endedBy valuesCodec))) (bothOf n)) (up toExit)
     by-imms n none = refl
-    by-imms n (some y) = by-values n (y .0) (ended values .read (y .1))
+    by-imms n (some y) = by-values n (y .0) (endedBy valuesCodec .read (y .1))
 
-    go : (o : Reading ℕ) → then (then (goOn o instRest) (second instForm (ended values))) (up (λ x. exit (x .0) (x .1))) ≡ then (then o (second instHead (seq imms (ended values)))) (up toExit)
+    go : (o : Reading ℕ) → then (then (goOn o instRest) (second instForm (endedBy valuesCodec))) (up (λ x. exit (x .0) (x .1))) ≡ then (then o (second instHead (seq immsCodec (endedBy valuesCodec)))) (up toExit)
     go none = refl
-    go (some (n, u)) = by-imms n (imms .read u)
+    go (some (n, u)) = by-imms n (immsCodec .read u)
 
 pub node-begins : Begins nodeLine nodeHead nodeTail
-unfolding nodeLine nodeHead same view
+unfolding nodeLine nodeHead same viewAs
 node-begins = record { is = λ t. go t (wordForm .read t) refl }
   where
     go : (t : List ℕ) (o : Reading Words) → wordForm .read t ≡ o → nodeLine .read t ≡ goOn (nodeHead .read t) nodeTail

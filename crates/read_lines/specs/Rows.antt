@@ -6,20 +6,20 @@ use mathlib.Core.Option.{Option, none, some}
 use Prim.Native.Nat.{ℕ}
 use Rattle.lifting.specs.Codec.{seq}
 use Rattle.lifting.specs.Ast.{Node, block, call, ext, boolCond}
-use Rattle.lifting.specs.Grammar.{field, numbers, imms, values}
+use Rattle.lifting.specs.Grammar.{field, numbersCodec, immsCodec, valuesCodec}
 use Rattle.lifting.specs.Parts.{nodeValues}
 use Rattle.read_cursor.specs.Read.{Took, Denied}
-use Rattle.read_cursor.specs.Heads.{instHead, selectionHead}
+use Rattle.read_insts.specs.Heads.{instHead, selectionHead}
 use Rattle.func.specs.declared.OpKind.{OpKind}
 use Rattle.func.specs.declared.OpKind.the-variants as op
-use Rattle.read_cursor.specs.declared.Selection.{Selection}
-use Rattle.read_cursor.specs.declared.Selection.the-variants as sel
+use Rattle.read_insts.specs.declared.Selection.{Selection}
+use Rattle.read_insts.specs.declared.Selection.the-variants as sel
 use Rattle.func.specs.declared.Marks.{Marks}
 use Rattle.func.specs.Store.{folds}
 use Rattle.func.specs.Keep.{keepOpRef, keepImm, keepValue, keepChild, keepRegion, keepNode, keepOp}
 use Rattle.func.specs.Rows.{marksOf, regionRow, nodeRow, opRow}
 use Rattle.read_lines.specs.Stores.{Stores, stores-row, waits-row, waits-denied, waits-refused, as-up, as-told, as-kept, head-took, first-took, first-stored, first-refused}
-use Rattle.read_lines.specs.Tails.{ended, regionLists, regionTail, toRegion, blockTail, control, controlled, loopLists, loopRest, loopTail, toLoop, instValues, exitTail, toExit, selectLists, selectRest, selectTail, toSelect, toSelectInst, opRest, toOp, toOpInst}
+use Rattle.read_lines.specs.Tails.{endedBy, regionLists, regionTail, toRegion, blockTail, control, controlled, loopLists, loopRest, loopTail, toLoop, instValues, exitTail, toExit, selectLists, selectRest, selectTail, toSelect, toSelectInst, opRest, opOfTail, toOpInst}
 use Rattle.read_lines.specs.Keepers.{keepRegionLists, keepLoopLists, keepInstValues, keepSelectLists, keepNodeLists, keepOpLists, region-row, block-row, loop-row, exit-row, selectNumber, selectOpcode, select-bool, select-inst, rest-refused, rest-denied, rest-row, op-inst, op-row}
 
 -- a loop's lists, as those of a loop that waits for its control number
@@ -49,8 +49,8 @@ module _ {text : List ℕ} {at next : ℕ} {w u v : List ℕ} {m : Marks} (e : m
   pub region-stored : Stores (regionLists .read) keepRegionLists text at (some (tt, next)) w u → v ≡ regionRow m u → Stores regionTail keepRegion text at (some (tt, next)) w v
   region-stored s q = as-up (regionLists .read) toRegion (stores-row (regionRow (marksOf w)) (region-row w) s (q ∙ ap (λ (m : Marks). regionRow m u) e))
 
-  pub block-stored : Stores (ended numbers .read) (folds keepOpRef) text at (some (tt, next)) w u → v ≡ nodeRow m 0 0 0 u → Stores blockTail keepNode text at (some (tt, next)) w v
-  block-stored s q = as-up (ended numbers .read) block (stores-row (nodeRow (marksOf w) 0 0 0) (block-row w) s (q ∙ ap (λ (m : Marks). nodeRow m 0 0 0 u) e))
+  pub block-stored : Stores (endedBy numbersCodec .read) (folds keepOpRef) text at (some (tt, next)) w u → v ≡ nodeRow m 0 0 0 u → Stores blockTail keepNode text at (some (tt, next)) w v
+  block-stored s q = as-up (endedBy numbersCodec .read) block (stores-row (nodeRow (marksOf w) 0 0 0) (block-row w) s (q ∙ ap (λ (m : Marks). nodeRow m 0 0 0 u) e))
 
   module _ {mid : ℕ} where
     -- the body is kept behind the values
@@ -84,14 +84,14 @@ module _ {k : Selection} {text : List ℕ} {at : ℕ} {w v : List ℕ} where
   bool-lists e s = as-told selectRest e (as-up (selectLists .read) (toSelect boolCond) (as-kept (select-bool w) s))
 
   module _ {n : ℕ} (e : k ≡ sel.Inst n) where
-    pub inst-refused : Stores (imms .read) (folds keepImm) text at none w v → Stores (selectRest k) keepNodeLists text at none w v
-    inst-refused s = as-told selectRest e (as-up (seq imms selectLists .read) (toSelectInst n) (first-refused imms selectLists s))
+    pub inst-refused : Stores (immsCodec .read) (folds keepImm) text at none w v → Stores (selectRest k) keepNodeLists text at none w v
+    inst-refused s = as-told selectRest e (as-up (seq immsCodec selectLists .read) (toSelectInst n) (first-refused immsCodec selectLists s))
 
-    pub inst-lists : {mid : ℕ} {found : Option (Unit {0} × ℕ)} {u : List ℕ} → Stores (imms .read) (folds keepImm) text at (some (tt, mid)) w u
+    pub inst-lists : {mid : ℕ} {found : Option (Unit {0} × ℕ)} {u : List ℕ} → Stores (immsCodec .read) (folds keepImm) text at (some (tt, mid)) w u
         → Stores (selectLists .read) keepSelectLists text mid found u v → Stores (selectRest k) keepNodeLists text at found w v
     inst-lists s r =
         as-told selectRest e
-        (as-up (seq imms selectLists .read) (toSelectInst n) (as-kept (λ x. select-inst w n (x .0) (x .1)) (first-stored imms selectLists keepSelectLists s r)))
+        (as-up (seq immsCodec selectLists .read) (toSelectInst n) (as-kept (λ x. select-inst w n (x .0) (x .1)) (first-stored immsCodec selectLists keepSelectLists s r)))
 
 pub row-by-kind : (m : Marks) (c : ℕ) (u : List ℕ) {k j : Selection} {v : List ℕ} → k ≡ j → v ≡ nodeRow m (selectNumber j) (selectOpcode j) c u → v ≡ nodeRow m (selectNumber k) (selectOpcode k) c u
 row-by-kind m c u {v = v} e q = subst⁻¹ (λ (j : Selection). v ≡ nodeRow m (selectNumber j) (selectOpcode j) c u) e q
@@ -101,10 +101,10 @@ module _ (a t : ℕ) {k : OpKind} {text : List ℕ} {at : ℕ} {found : Option (
   pub inst-op : {n : ℕ} → k ≡ op.Inst n → Stores (instValues .read) keepInstValues text at found w v → Stores (opRest a t k) keepOpLists text at found w v
   inst-op {n} e s = as-told (opRest a t) e (as-up (instValues .read) (toOpInst a t n) (as-kept (op-inst w a t n) s))
 
-  pub call-op : {n : ℕ} → k ≡ op.Call n → Stores (ended values .read) (folds keepValue) text at found w v → Stores (opRest a t k) keepOpLists text at found w v
+  pub call-op : {n : ℕ} → k ≡ op.Call n → Stores (endedBy valuesCodec .read) (folds keepValue) text at found w v → Stores (opRest a t k) keepOpLists text at found w v
   unfolding folds
-  call-op {n} e s = as-told (opRest a t) e (as-up (ended values .read) (toOp a t (call n)) s)
+  call-op {n} e s = as-told (opRest a t) e (as-up (endedBy valuesCodec .read) (opOfTail a t (call n)) s)
 
-  pub ext-op : {i n : ℕ} → k ≡ op.Ext i n → Stores (ended values .read) (folds keepValue) text at found w v → Stores (opRest a t k) keepOpLists text at found w v
+  pub ext-op : {i n : ℕ} → k ≡ op.Ext i n → Stores (endedBy valuesCodec .read) (folds keepValue) text at found w v → Stores (opRest a t k) keepOpLists text at found w v
   unfolding folds
-  ext-op {i} {n} e s = as-told (opRest a t) e (as-up (ended values .read) (toOp a t (ext i n)) s)
+  ext-op {i} {n} e s = as-told (opRest a t) e (as-up (endedBy valuesCodec .read) (opOfTail a t (ext i n)) s)

@@ -1,8 +1,8 @@
 // Op lines.
 use func::OpKind;
 use read_cursor::Cursor;
-use read_cursor::Op;
 use read_cursor::Step;
+use read_insts::Op;
 use read_lines::forms::inst_values;
 use read_lines::forms::values_end;
 ghost use mathlib.Core.Path.{_≡_};

@@ -4,7 +4,7 @@ use mathlib.Core.Bool.{Bool}
 use mathlib.Core.List.{List}
 use Prim.Native.Nat.{ℕ}
 use Rattle.lifting.specs.Codec.{Whole}
-use Rattle.read_cursor.specs.Read.{Ended}
+use Rattle.read_cursor.specs.Read.{TextEnded}
 use Rattle.read_cursor.specs.declared.Step.{Step}
 use Rattle.read_lines.specs.Lines.{Lined}
 
@@ -13,5 +13,5 @@ pub lined-told : {A B : Type 0} (W : Whole (List A × B)) (D : Whole B) (k : A �
     → Lined W D k t from r w v → Lined W D k t from s w v
 lined-told W D k t from w v e p = subst (λ (r : Step). Lined W D k t from r w v) e p
 
-pub ended-told : (t : List ℕ) (at : ℕ) {b c : Bool} → b ≡ c → Ended b t at → Ended c t at
-ended-told t at e p = subst (λ (b : Bool). Ended b t at) e p
+pub ended-told : (t : List ℕ) (at : ℕ) {b c : Bool} → b ≡ c → TextEnded b t at → TextEnded c t at
+ended-told t at e p = subst (λ (b : Bool). TextEnded b t at) e p

@@ -11,17 +11,17 @@ use Prim.Native.Nat.{ℕ}
 use lib.ListN.{drop}
 use Rattle.lifting.specs.Bytes.{bytes}
 use Rattle.lifting.specs.Digits.{Reading}
-use Rattle.lifting.specs.Codec.{Whole, then, onto, both, second, strip, strip-sound, lit, seq, view, same, alt}
+use Rattle.lifting.specs.Codec.{Whole, then, onto, bothOf, second, strip, strip-sound, lit, seq, viewAs, same, alt}
 use Rattle.lifting.specs.Whole.{readWhole}
 use Rattle.lifting.specs.Ast.{Const, Decl, Region, ControlInst, Func}
 use Rattle.lifting.specs.Grammar.{before, line, Regions, regionLine, regionLines, nodeLines, opLines, ctrlLines, restForm, restLines, funcLine, TextForm, constLines, paramLines, text, read, opened, toFunc}
-use Rattle.read_cursor.specs.Read.{Took, Denied, Ended, literal}
+use Rattle.read_cursor.specs.Read.{Took, Denied, TextEnded, literal}
 use Rattle.read_cursor.specs.Begins.{goOn}
 use Rattle.func.specs.Store.{folds}
 use Rattle.func.specs.Whole.{headed, withConsts, withParams, withRegions, withNodes, withOps}
 use Rattle.func.specs.Keep.{keepFunc, keepConst, keepParam, keepRegion, keepNode, keepOp, keepCtrl}
-use Rattle.read_lines.specs.Stores.{Stores, taken, refused}
-use Rattle.read_lines.specs.Lines.{Passed, passed-some, passed-none}
+use Rattle.read_lines.specs.Stores.{Stores, stores-taken, stores-refused}
+use Rattle.read_lines.specs.Lines.{LinesPassed, passed-some, passed-none}
 use Rattle.read_lines.specs.Tails.{funcTail, func-begins, regionTail, region-begins}
 use Rattle.read_lines.specs.Keepers.{keepFuncLine}
 use Rattle.read_lines.specs.Kinds.{region-kind}
@@ -37,15 +37,15 @@ says-from : {w u v : List ℕ} {a b : Bool} (cs : List (ℕ × ControlInst)) (m 
 says-from {v = v} {a} {b} cs m e s = subst (λ (x : List ℕ). Says (folds keepJudged cs (start x m)) a b v) (sym e) s
 
 -- from the regions on
-module _ {t : List ℕ} {from i : ℕ} {w v : List ℕ} (p : Passed regionLines nodeLines keepRegion t from w i v) where
+module _ {t : List ℕ} {from i : ℕ} {w v : List ℕ} (p : LinesPassed regionLines nodeLines keepRegion t from w i v) where
   pub body-nodes : nodeLines .read (drop i t) ≡ none → regionLines .read (drop from t) ≡ none
   body-nodes e = passed-none p e
 
-  module _ {j : ℕ} {u : List ℕ} (q : Passed nodeLines opLines keepNode t i v j u) where
+  module _ {j : ℕ} {u : List ℕ} (q : LinesPassed nodeLines opLines keepNode t i v j u) where
     pub body-ops : opLines .read (drop j t) ≡ none → regionLines .read (drop from t) ≡ none
     body-ops e = passed-none p (passed-none q e)
 
-    module _ {k : ℕ} {x : List ℕ} (r : Passed opLines ctrlLines keepOp t j u k x) where
+    module _ {k : ℕ} {x : List ℕ} (r : LinesPassed opLines ctrlLines keepOp t j u k x) where
       body-ctrls : ctrlLines .read (drop k t) ≡ none → regionLines .read (drop from t) ≡ none
       body-ctrls e = passed-none p (passed-none q (passed-none r e))
 
@@ -70,7 +70,7 @@ abbrev nothing : Regions
 nothing = ([], ([], ([], ([], tt))))
 
 region-imported : (r : List ℕ) → regionLine .read (bytes "(imported)\n" ++ r) ≡ none
-unfolding regionLine line before lit seq same view strip
+unfolding regionLine line before lit seq same viewAs strip
 region-imported r = refl
 
 strip-of : (s u v : List ℕ) → literal s u ≡ some (tt, v) → u ≡ s ++ v
@@ -81,12 +81,12 @@ strip-of s u v e = by-strip (strip s u) refl e
     by-strip (some r) h q = strip-sound s u r h ∙ ap (λ (y : Unit {0} × List ℕ). s ++ y .1) (Option·some-injective _ _ q)
 
 module _ {t : List ℕ} {at mid : ℕ} (p : Took (literal (bytes "(imported)\n")) t at tt mid) where
-  pub rest-imported : {w m : List ℕ} → Ended true t mid → Body restLines true true t at w m w
-  unfolding restLines restForm view alt seq lit folds start
+  pub rest-imported : {w m : List ℕ} → TextEnded true t mid → Body restLines true true t at w m w
+  unfolding restLines restForm viewAs alt seq lit folds start
   rest-imported e = record { body = nothing; read = rw (p .is, e); says = record { func = refl; opcodes-are = refl; edges-are = refl } }
 
-  pub rest-unended : Ended false t mid → restLines .read (drop at t) ≡ none
-  unfolding restLines restForm view alt seq lit
+  pub rest-unended : TextEnded false t mid → restLines .read (drop at t) ≡ none
+  unfolding restLines restForm viewAs alt seq lit
   rest-unended e = rw (p .is, e, ap (regionLine .read) (strip-of (bytes "(imported)\n") (drop at t) (drop mid t) (p .is)) ∙ region-imported (drop mid t))
 
 module _ {t : List ℕ} {at : ℕ} (n : Denied (literal (bytes "(imported)\n")) t at) where
@@ -96,8 +96,8 @@ module _ {t : List ℕ} {at : ℕ} (n : Denied (literal (bytes "(imported)\n")) 
     where
       go : (o : Option ((Region × Regions) × Unit {0})) → then (regionLine .read (drop at t)) (second regionLine regionLines) ≡ o
           → restLines .read (drop at t) ≡ then o (λ x. some ((x .0 .0 ∷ x .0 .1 .0, x .0 .1 .1), x .1))
-      go none e = unfold restLines restForm view alt seq lit in rw (n .is, e)
-      go (some x) e = unfold restLines restForm view alt seq lit in rw (n .is, e)
+      go none e = unfold restLines restForm viewAs alt seq lit in rw (n .is, e)
+      go (some x) e = unfold restLines restForm viewAs alt seq lit in rw (n .is, e)
 
   pub rest-neither : Denied (literal (bytes "(region (in")) t at → restLines .read (drop at t) ≡ none
   unfolding lit
@@ -112,7 +112,7 @@ module _ {t : List ℕ} {at : ℕ} (n : Denied (literal (bytes "(imported)\n")) 
     rest-are none e = sym (region-kind .wrong (drop at t) tt (drop mid t) (q .is) e)
     rest-are (some x) e = by-rest (regionLines .read (x .1)) ∙ sym (region-kind .more (drop at t) tt (drop mid t) (x .0) (x .1) (q .is) e)
       where
-        by-rest : (o : Option (Regions × Unit {0})) → then (then o (both (x .0))) (λ y. some ((y .0 .0 ∷ y .0 .1 .0, y .0 .1 .1), y .1)) ≡ then o (onto (x .0))
+        by-rest : (o : Option (Regions × Unit {0})) → then (then o (bothOf (x .0))) (λ y. some ((y .0 .0 ∷ y .0 .1 .0, y .0 .1 .1), y .1)) ≡ then o (onto (x .0))
         by-rest none = refl
         by-rest (some y) = refl
 
@@ -129,11 +129,11 @@ module _ {t : List ℕ} {at : ℕ} (n : Denied (literal (bytes "(imported)\n")) 
     rest-body Refused w m v c = rest-regions ∙ c
 
 -- from the consts on
-module _ {t : List ℕ} {from i : ℕ} {w v : List ℕ} (p : Passed constLines paramLines keepConst t from w i v) where
+module _ {t : List ℕ} {from i : ℕ} {w v : List ℕ} (p : LinesPassed constLines paramLines keepConst t from w i v) where
   pub tail-params : paramLines .read (drop i t) ≡ none → constLines .read (drop from t) ≡ none
   tail-params e = passed-none p e
 
-  module _ {j : ℕ} {u : List ℕ} (q : Passed paramLines restLines keepParam t i v j u) where
+  module _ {j : ℕ} {u : List ℕ} (q : LinesPassed paramLines restLines keepParam t i v j u) where
     pub tail-is : (r : CtrlsRead) (m y : List ℕ) → BodyIs restLines r t j u m y → TailIs r t from w m y
     tail-is Refused m y c = passed-none p (passed-none q c)
     tail-is (Read a b) m y c =
@@ -159,8 +159,8 @@ lines-are t = whole ∙ go (then (funcLine .read t) (second funcLine constLines)
     whole = unfold read opened in refl
 
     go : (o : Option (TextForm × Unit {0})) → then (funcLine .read t) (second funcLine constLines) ≡ o → readWhole text t ≡ then o (λ x. some (toFunc (x .0)))
-    go none e = unfold readWhole text seq view in rw e
-    go (some x) e = unfold readWhole text seq view in rw e
+    go none e = unfold readWhole text seq viewAs in rw e
+    go (some x) e = unfold readWhole text seq viewAs in rw e
 
 text-is : (t : List ℕ) → read t ≡ behind (goOn (lit (bytes "(func") refl .read t) (λ u. funcTail .read))
 text-is t = lines-are t ∙ ap behind (func-begins .is t)
@@ -176,20 +176,20 @@ module _ {t : List ℕ} where
     behind-head = text-is t ∙ ap (λ (o : Reading (Unit {0})). behind (goOn o (λ u. funcTail .read))) (p .is)
 
     pub text-refused : {w v : List ℕ} → Stores (funcTail .read) keepFuncLine t a none w v → read t ≡ none
-    text-refused s = behind-head ∙ ap behind (refused s)
+    text-refused s = behind-head ∙ ap behind (stores-refused s)
 
     pub text-whole : {b : ℕ} {w v : List ℕ} → Stores (funcTail .read) keepFuncLine t a (some (tt, b)) w v → (r : CtrlsRead) (m y : List ℕ) → TailIs r t b v m y → TextIs r t w m y
     text-whole {b} {w} {v} s Refused m y c =
-        behind-head ∙ ap behind (taken s .1) ∙ ap (λ (o : Option ((List Const × (List Decl × Regions)) × Unit {0})). then (then o (both (taken s .0))) (λ x. some (toFunc (x .0)))) c
+        behind-head ∙ ap behind (stores-taken s .1) ∙ ap (λ (o : Option ((List Const × (List Decl × Regions)) × Unit {0})). then (then o (bothOf (stores-taken s .0))) (λ x. some (toFunc (x .0)))) c
     text-whole {b} {w} {v} s (Read p q) m y c =
-        let h = taken s in
+        let h = stores-taken s in
         let x : List Const × (List Decl × Regions) = (c .consts, (c .params, c .body)) in
         let F = toFunc (h .0, x) in
         let k : withOps F w ≡ keepBody (c .body) (folds keepParam (c .params) (folds keepConst (c .consts) v)) = words (h .0) x (h .2) in
         let e = says-from (F .ctrls) m k (c .says) in
         record {
           F = F;
-          read-is = behind-head ∙ ap behind (h .1) ∙ ap (λ (o : Option ((List Const × (List Decl × Regions)) × Unit {0})). then (then o (both (h .0))) (λ x. some (toFunc (x .0)))) (c .read);
+          read-is = behind-head ∙ ap behind (h .1) ∙ ap (λ (o : Option ((List Const × (List Decl × Regions)) × Unit {0})). then (then o (bothOf (h .0))) (λ x. some (toFunc (x .0)))) (c .read);
           func = kept F ∙ sym (func-judged (F .ctrls) (start (withOps F w) m)) ∙ e .func;
           opcodes-are = e .opcodes-are;
           edges-are = e .edges-are;

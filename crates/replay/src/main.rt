@@ -7,12 +7,12 @@ use read_cases::taken;
 use read_cases::unmarked;
 ghost use mathlib.Core.Path.{_≡_};
 ghost use lib.ListN.{length};
-ghost use Rattle.read_cases.specs.Held.{Within};
+ghost use Rattle.read_cases.specs.Held.{CountsWithin};
 
 // A case that has ended is run.
 fn run(text: &[u8], state: State) -> State
-    requires { ⌜ Within 65536 (length (now text)) state ⌝ }
-    ensures { λ r. ⌜ Within 65536 (length (now (text .entry))) r ⌝ }
+    requires { ⌜ CountsWithin 65536 (length (now text)) state ⌝ }
+    ensures { λ r. ⌜ CountsWithin 65536 (length (now (text .entry))) r ⌝ }
 {
     if state.matched == 4 {
         print_case(unmarked(text, state.len));
@@ -22,8 +22,8 @@ fn run(text: &[u8], state: State) -> State
 
 // Takes what follows of the last piece, up to the end of a case, or reads the next one.
 fn step(buffer: &mut [u8], text: &mut [u8], state: State) -> State
-    requires { ⌜ Within 65536 (length (now text)) state × (length (now buffer) ≡ 65536) ⌝ }
-    ensures { λ r. ⌜ Within 65536 (length (now (text .exit))) r × (length (now (text .exit)) ≡ length (now (text .entry))) × (length (now (buffer .exit)) ≡ 65536) ⌝ }
+    requires { ⌜ CountsWithin 65536 (length (now text)) state × (length (now buffer) ≡ 65536) ⌝ }
+    ensures { λ r. ⌜ CountsWithin 65536 (length (now (text .exit))) r × (length (now (text .exit)) ≡ length (now (text .entry))) × (length (now (buffer .exit)) ≡ 65536) ⌝ }
 {
     let till = state.till;
     if state.from < till {

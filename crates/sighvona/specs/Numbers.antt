@@ -2,7 +2,7 @@
 --     refusalOf, wordsOr, nextOr       of a text that is lifted
 --     readTo, readOf, readLeaves       of a text that is only read
 --     version                          of the library
---     numbers-list, numbers-refusal    by what the entry tells
+--     numbers, read-number             by what the entry and the reader answer
 use mathlib.Core.Path.{_≡_, refl, ap, _∙_}
 use mathlib.Core.Bool.{Bool, true, false}
 use mathlib.Core.List.{List}
@@ -14,19 +14,19 @@ use borrow.Author.Tests.{eqb-true}
 use Rattle.refusals.specs.declared.Refusal.{Refusal}
 use Rattle.refusals.specs.declared.Refusal.the-variants.{Output, Scratch}
 use Rattle.refusals.specs.Numbers.{refusalNumber}
+use Rattle.results.specs.declared.Parsed as results
+use Rattle.results.specs.declared.Parsed.the-variants as reading
+use Rattle.results.specs.declared.Lifted.{Lifted}
+use Rattle.results.specs.declared.Lifted.the-variants.{Refused, Whole}
+use Rattle.results.specs.Told.{liftNumber, nextAfter, readNumber, refusalWords, wantedIf11, wordsAfter}
 use Rattle.lifting.specs.Answer.{Answer, Parsed, denied, listed, parse, parsed, refused, zerosUnless8}
-use Rattle.emitter.specs.declared.Lifted.the-variants.{Refused}
-use Rattle.emitter.specs.Emit.{Wants, gives, outcome, refuses}
+use Rattle.reader.specs.Parse.{answerOf}
+use Rattle.emit_output.specs.Emit.{Wants, outcome, told}
 
 -- 0 for a list, else the refusal's number
 abbrev pub refusalOf : Answer → ℕ
 refusalOf (listed ws next) = 0
 refusalOf (refused n) = n
-
--- refusal 11 tells the count of words that are wanted; any other leaves what was there
-abbrev pub wantedIf11 : Bool → ℕ → ℕ → ℕ
-wantedIf11 true wanted old = wanted
-wantedIf11 false wanted old = old
 
 -- the word count
 abbrev pub wordsOr : Answer → ℕ → ℕ → ℕ
@@ -37,10 +37,6 @@ wordsOr (refused n) wanted old = wantedIf11 (eqb n (refusalNumber Output)) wante
 abbrev pub nextOr : Answer → ℕ → ℕ
 nextOr (listed ws next) old = next
 nextOr (refused n) old = old
-
--- the same of a refusal and what it tells
-abbrev pub refusalWords : Refusal → ℕ → ℕ → ℕ
-refusalWords r told old = wantedIf11 (eqb (refusalNumber r) (refusalNumber Output)) told old
 
 -- ---- of a text that is only read
 
@@ -64,16 +60,12 @@ readLeaves (denied n) scratch = zerosUnless8 (eqb n (refusalNumber Scratch)) scr
 abbrev pub version : ℕ
 version = 0 * 65536 + 6 * 256 + 0
 
--- ---- by what the entry tells
+-- ---- by what the entry and the reader answer
 
-pub record Crosses (a : Answer) (r wanted words next exitWords exitNext : ℕ) : Type 0 where
-  pub refusal : r ≡ refusalOf a
-  pub count : exitWords ≡ wordsOr a wanted words
-  pub free : exitNext ≡ nextOr a next
-
-pub numbers-list : (a : Answer) (n k wanted words next : ℕ) → gives n k ≡ outcome a → Crosses a 0 wanted words next n k
-numbers-list (listed ws j) n k wanted words next e = record { refusal = refl; count = cc; free = cc }
-numbers-list (refused j) n k wanted words next e = absurd (let z : _≡_ {A = ℕ} 0 1 = cc in omega arith)
+pub record Crosses (a : Answer) (r : Lifted) (wanted words next : ℕ) : Type 0 where
+  pub refusal : liftNumber r ≡ refusalOf a
+  pub count : wordsAfter r words ≡ wordsOr a wanted words
+  pub free : nextAfter r next ≡ nextOr a next
 
 -- only refusal 11 has a count
 refusal-words : (r : Refusal) (told wanted old : ℕ) → Wants wanted (Refused r told) → refusalWords r told old ≡ refusalWords r wanted old
@@ -83,9 +75,15 @@ refusal-words r told wanted old h = go (eqb (refusalNumber r) (refusalNumber Out
     go true e = h (eqb-true (refusalNumber r) (refusalNumber Output) e)
     go false e = refl
 
-pub numbers-refusal : (a : Answer) (r : Refusal) (told wanted words next : ℕ) → refuses (refusalNumber r) ≡ outcome a → Wants wanted (Refused r told)
-    → Crosses a (refusalNumber r) wanted words next (refusalWords r told words) next
-numbers-refusal (listed ws j) r told wanted words next e h = absurd (let z : _≡_ {A = ℕ} 0 1 = cc in omega arith)
-numbers-refusal (refused j) r told wanted words next e h =
-    let n : refusalNumber r ≡ j = cc in
-    record { refusal = n; count = refusal-words r told wanted words h ∙ ap (λ (i : ℕ). wantedIf11 (eqb i (refusalNumber Output)) wanted words) n; free = refl }
+pub numbers : (a : Answer) (r : Lifted) (wanted words next : ℕ) → told r ≡ outcome a → Wants wanted r → Crosses a r wanted words next
+numbers (listed ws j) (Whole n k) wanted words next e h = record { refusal = refl; count = cc; free = cc }
+numbers (listed ws j) (Refused r n) wanted words next e h = absurd (let z : _≡_ {A = ℕ} 0 1 = cc in omega arith)
+numbers (refused j) (Whole n k) wanted words next e h = absurd (let z : _≡_ {A = ℕ} 0 1 = cc in omega arith)
+numbers (refused j) (Refused r n) wanted words next e h =
+    let is : refusalNumber r ≡ j = cc in
+    record { refusal = is; count = refusal-words r n wanted words h ∙ ap (λ (i : ℕ). wantedIf11 (eqb i (refusalNumber Output)) wanted words) is; free = refl }
+
+-- the function slice holds the function of a text that is read
+pub read-number : (r : results.Parsed) (func : List ℕ) → readNumber r ≡ readOf (answerOf r func)
+read-number reading.Function func = refl
+read-number (reading.Refused x) func = refl

@@ -1,25 +1,16 @@
 // The static library: what C and Rust call. A slice crosses as a pointer and a count of elements. Nothing is asked of the caller but that the
 // slices it lends for writing do not overlap.
-use check_text::Parsed;
-use emitter::Lifted;
-use func_pools::clear;
 use lifter::lift_function;
-use refusals::Refusal;
-use refusals::number;
+use results::Parsed;
+use results::lift_number;
+use results::next_after;
+use results::read_number;
+use results::words_after;
+use work::clear_all;
 ghost use mathlib.Core.Path.{_≡_};
 ghost use Rattle.lifting.specs.Answer.{outAfter, scratchAfter};
 ghost use Rattle.lifter.specs.Entry.{answerTo, wantedTo};
-ghost use Rattle.sighvona.specs.Numbers.{nextOr, readLeaves, readOf, readTo, refusalOf, refusalWords, version, wordsOr};
-
-// What `words` holds after a refusal: 11 tells how many words are wanted.
-fn words_told(r: Refusal, wanted: usize, old: usize) -> usize
-    ensures { λ n. ⌜ n ≡ refusalWords r wanted old ⌝ }
-{
-    if number(r) == number(Refusal::Output) {
-        return wanted;
-    }
-    old
-}
+ghost use Rattle.sighvona.specs.Numbers.{nextOr, readLeaves, readOf, readTo, refusalOf, version, wordsOr};
 
 // Lifts a text: 0, with the list in `out`, its count of words and the next free id; or the number of the refusal. Refusal 11 gives in `words` how many
 // words the list has. After any other refusal `words` and `next` keep what they held.
@@ -41,17 +32,9 @@ pub extern "C" fn sighvona_lift(
     ensures out_slice { λ _. ⌜ now (out .exit) ≡ outAfter (answerTo (now (text .entry)) first (now (func .entry)) (now (work .entry)) (now (out .entry))) (now (out .entry)) ⌝ }
 {
     let r = lift_function(text, first, func, work, out);
-    match r {
-        Lifted::Whole(n, k) => {
-            *words = n;
-            *next = k;
-            0
-        }
-        Lifted::Refused(x, n) => {
-            *words = words_told(x, n, *words);
-            number(x)
-        }
-    }
+    *words = words_after(r, *words);
+    *next = next_after(r, *next);
+    lift_number(r)
 }
 
 // Reads a text and lifts nothing: 0, or the number of the refusal, 8, 1 to 7 or 13. Both slices end as zeros, except after 8, when they keep their words.
@@ -62,11 +45,11 @@ pub extern "C" fn sighvona_read(text: &[u8], func: &mut [u32], work: &mut [u32])
     ensures work_slice { λ _. ⌜ now (work .exit) ≡ readLeaves (readTo (now (text .entry)) (now (func .entry)) (now (work .entry))) (now (work .entry)) ⌝ }
 {
     let r = reader::parse(text, func, work);
-    let Parsed::Refused(x) = r else {
-        clear(func);
-        return 0;
+    let Parsed::Refused(_) = r else {
+        clear_all(func);
+        return read_number(r);
     };
-    number(x)
+    read_number(r)
 }
 
 // The library's version, 0.6.0: major * 65,536 + minor * 256 + patch.

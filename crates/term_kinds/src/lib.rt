@@ -37,7 +37,7 @@ ghost use Rattle.walk_roots.specs.Tables.{Indexed};
 ghost use Rattle.lifting_blocks.specs.Follow.{goesOn};
 ghost use Rattle.walk_points.specs.Parents.{Parents};
 ghost use Rattle.walk_points.specs.Walk.{Walkable};
-ghost use Rattle.terminators.specs.At.{blockAt, placeIn, pointAt};
+ghost use Rattle.terminators.specs.At.{visitedBlock, placeIn, pointAt};
 ghost use Rattle.terminators.specs.Visited.{Visited};
 ghost use Rattle.terminators.specs.Kinds.{TermIs, asPoint, isLoop, outOf};
 
@@ -66,7 +66,7 @@ fn onward(func: &[u32], work: &[u32], m: usize, i: usize) -> TermKind
     requires { ⌜ Visited (now func) (now work) m ⌝ }
     requires { ⌜ i < m ⌝ }
     requires { ⌜ goesOn (funcOf (now func)) (pointAt (funcOf (now func)) i) ≡ true ⌝ }
-    ensures { λ x. ⌜ TermIs (funcOf (now (func .entry))) (blockAt (funcOf (now (func .entry))) i .term) x ⌝ }
+    ensures { λ x. ⌜ TermIs (funcOf (now (func .entry))) (visitedBlock (funcOf (now (func .entry))) i .term) x ⌝ }
 {
     TermKind::Straight(number(work, POINTS, i + 1))
 }
@@ -185,7 +185,7 @@ fn node_entry(func: &[u32], n: usize) -> TermKind
 pub fn term_kind(func: &[u32], work: &[u32], m: usize, i: usize) -> TermKind
     requires { ⌜ Visited (now func) (now work) m ⌝ }
     requires { ⌜ i < m ⌝ }
-    ensures { λ x. ⌜ TermIs (funcOf (now (func .entry))) (blockAt (funcOf (now (func .entry))) i .term) x ⌝ }
+    ensures { λ x. ⌜ TermIs (funcOf (now (func .entry))) (visitedBlock (funcOf (now (func .entry))) i .term) x ⌝ }
 {
     let p = point(func, work, m, i);
     match p {

@@ -18,7 +18,7 @@ ghost use Rattle.lifting.specs.Points.{regionEntry};
 ghost use Rattle.lifting.specs.Absorb.{labels, mergeLabels, soleTarget};
 ghost use Rattle.func.specs.Decode.{funcOf};
 ghost use Rattle.walk_points.specs.Numbers.{pointNumber};
-ghost use Rattle.terminators.specs.At.{blockAt};
+ghost use Rattle.terminators.specs.At.{visitedBlock};
 ghost use Rattle.terminators.specs.Visited.{Visited};
 ghost use Rattle.terminators.specs.Kinds.{asSole};
 
@@ -26,7 +26,7 @@ ghost use Rattle.terminators.specs.Kinds.{asSole};
 pub fn merge_count(func: &[u32], work: &[u32], m: usize, i: usize) -> usize
     requires { ⌜ Visited (now func) (now work) m ⌝ }
     requires { ⌜ i < m ⌝ }
-    ensures { λ x. ⌜ x ≡ length (mergeLabels (blockAt (funcOf (now (func .entry))) i .term .merge)) ⌝ }
+    ensures { λ x. ⌜ x ≡ length (mergeLabels (visitedBlock (funcOf (now (func .entry))) i .term .merge)) ⌝ }
 {
     merges(term_kind(func, work, m, i))
 }
@@ -35,7 +35,7 @@ pub fn merge_count(func: &[u32], work: &[u32], m: usize, i: usize) -> usize
 pub fn target_count(func: &[u32], work: &[u32], m: usize, i: usize) -> usize
     requires { ⌜ Visited (now func) (now work) m ⌝ }
     requires { ⌜ i < m ⌝ }
-    ensures { λ x. ⌜ x ≡ length (blockAt (funcOf (now (func .entry))) i .term .targets) ⌝ }
+    ensures { λ x. ⌜ x ≡ length (visitedBlock (funcOf (now (func .entry))) i .term .targets) ⌝ }
 {
     targets(func, term_kind(func, work, m, i))
 }
@@ -44,8 +44,8 @@ pub fn target_count(func: &[u32], work: &[u32], m: usize, i: usize) -> usize
 pub fn target(func: &[u32], work: &[u32], m: usize, i: usize, k: usize) -> usize
     requires { ⌜ Visited (now func) (now work) m ⌝ }
     requires { ⌜ i < m ⌝ }
-    requires { ⌜ k < length (blockAt (funcOf (now func)) i .term .targets) ⌝ }
-    ensures { λ x. ⌜ x ≡ pointNumber (getD (blockAt (funcOf (now (func .entry))) i .term .targets) k (regionEntry 0)) ⌝ }
+    requires { ⌜ k < length (visitedBlock (funcOf (now func)) i .term .targets) ⌝ }
+    ensures { λ x. ⌜ x ≡ pointNumber (getD (visitedBlock (funcOf (now (func .entry))) i .term .targets) k (regionEntry 0)) ⌝ }
 {
     target_at(func, term_kind(func, work, m, i), k)
 }
@@ -54,7 +54,7 @@ pub fn target(func: &[u32], work: &[u32], m: usize, i: usize, k: usize) -> usize
 pub fn label_count(func: &[u32], work: &[u32], m: usize, i: usize) -> usize
     requires { ⌜ Visited (now func) (now work) m ⌝ }
     requires { ⌜ i < m ⌝ }
-    ensures { λ x. ⌜ x ≡ length (labels (blockAt (funcOf (now (func .entry))) i .term)) ⌝ }
+    ensures { λ x. ⌜ x ≡ length (labels (visitedBlock (funcOf (now (func .entry))) i .term)) ⌝ }
     ensures { λ x. ⌜ x ≤ 4097 ⌝ }
 {
     let w = term_kind(func, work, m, i);
@@ -65,8 +65,8 @@ pub fn label_count(func: &[u32], work: &[u32], m: usize, i: usize) -> usize
 pub fn label(func: &[u32], work: &[u32], m: usize, i: usize, k: usize) -> usize
     requires { ⌜ Visited (now func) (now work) m ⌝ }
     requires { ⌜ i < m ⌝ }
-    requires { ⌜ k < length (labels (blockAt (funcOf (now func)) i .term)) ⌝ }
-    ensures { λ x. ⌜ x ≡ pointNumber (getD (labels (blockAt (funcOf (now (func .entry))) i .term)) k (regionEntry 0)) ⌝ }
+    requires { ⌜ k < length (labels (visitedBlock (funcOf (now func)) i .term)) ⌝ }
+    ensures { λ x. ⌜ x ≡ pointNumber (getD (labels (visitedBlock (funcOf (now (func .entry))) i .term)) k (regionEntry 0)) ⌝ }
 {
     let w = term_kind(func, work, m, i);
     let c = merges(w);
@@ -80,7 +80,7 @@ pub fn label(func: &[u32], work: &[u32], m: usize, i: usize, k: usize) -> usize
 pub fn sole_target(func: &[u32], work: &[u32], m: usize, i: usize) -> Sole
     requires { ⌜ Visited (now func) (now work) m ⌝ }
     requires { ⌜ i < m ⌝ }
-    ensures { λ x. ⌜ x ≡ asSole (soleTarget (blockAt (funcOf (now (func .entry))) i .term)) ⌝ }
+    ensures { λ x. ⌜ x ≡ asSole (soleTarget (visitedBlock (funcOf (now (func .entry))) i .term)) ⌝ }
 {
     sole(func, term_kind(func, work, m, i))
 }
@@ -89,7 +89,7 @@ pub fn sole_target(func: &[u32], work: &[u32], m: usize, i: usize) -> Sole
 pub fn phi_count(func: &[u32], work: &[u32], m: usize, i: usize) -> usize
     requires { ⌜ Visited (now func) (now work) m ⌝ }
     requires { ⌜ i < m ⌝ }
-    ensures { λ x. ⌜ x ≡ length (blockAt (funcOf (now (func .entry))) i .keys) ⌝ }
+    ensures { λ x. ⌜ x ≡ length (visitedBlock (funcOf (now (func .entry))) i .keys) ⌝ }
 {
     let p = point(func, work, m, i);
     match p {

@@ -24,7 +24,7 @@ ghost use Rattle.lifting.specs.Parts.{regionOf};
 ghost use Rattle.lifting.specs.Points.{nodeEntry, nodeExit, regionEntry, regionExit};
 ghost use Rattle.lifting.specs.Absorb.{mergeLabels, soleTarget};
 ghost use Rattle.func.specs.Decode.{funcOf};
-ghost use Rattle.func.specs.Tables.{Tables, ctrlLine};
+ghost use Rattle.func.specs.Tables.{Tables, ctrlLineOf};
 ghost use Rattle.walk_points.specs.Numbers.{pointNumber};
 ghost use Rattle.walk_points.specs.Walk.{Walkable};
 ghost use Rattle.terminators.specs.Kinds.{Known, asSole, bareSole, isBranch, mergeControl, mergeOf, termOf};
@@ -163,7 +163,7 @@ fn line_sole(func: &[u32], c: usize) -> Sole
     requires { ⌜ Tables (now func) ⌝ }
     requires { ⌜ Walkable (funcOf (now func)) ⌝ }
     requires { ⌜ c < length (funcOf (now func) .ctrls) ⌝ }
-    ensures { λ x. ⌜ x ≡ asSole (soleTarget (lineTerm (ctrlLine (funcOf (now (func .entry))) c .1))) ⌝ }
+    ensures { λ x. ⌜ x ≡ asSole (soleTarget (lineTerm (ctrlLineOf (funcOf (now (func .entry))) c .1))) ⌝ }
 {
     if ctrl_attrs(func, c) != 0 {
         return Sole::Nowhere;

@@ -17,11 +17,11 @@ use Rattle.lifting_runs.specs.Places as places
 use Rattle.lifting_runs.specs.TourLaid.{suffix-in}
 use Rattle.lifting_runs.specs.Shaped.{visited-low}
 use Rattle.lifting_blocks.specs.Flat.{noPair}
-use Rattle.lifting_blocks.specs.Chain.{firstOf}
-use Rattle.lifting_blocks.specs.Steps.{Placed, Step, placed, step-entry, step-exit, step-in, step-out}
+use Rattle.lifting_blocks.specs.Chain.{firstInTable}
+use Rattle.lifting_blocks.specs.Steps.{PlacedAs, Step, placed-as, step-entry, step-exit, step-in, step-out}
 use Rattle.lifting_blocks.specs.Laws.{steps}
 use Rattle.walk_points.specs.Numbers.{Small}
-use Rattle.walk_points.specs.Parents.{parentOf, parent-is, parent-none}
+use Rattle.walk_points.specs.Parents.{parentWord, parent-is, parent-none}
 use Rattle.walk_points.specs.Walk.{Walkable}
 
 -- where a region stands, from its parent's word
@@ -30,7 +30,7 @@ placeBy zero = top
 placeBy (suc n) = inNode n
 
 abbrev pub placeIn : Func → ℕ → Place
-placeIn F r = placeBy (parentOf F r)
+placeIn F r = placeBy (parentWord F r)
 
 -- the block of point p, after which q is visited
 abbrev pub blockOf : Func → CfgPoint → CfgPoint → BlockLifting
@@ -56,14 +56,14 @@ small-text F a b (nodeExit n) h = omega arith
 abbrev pub pointAt : Func → ℕ → CfgPoint
 pointAt F i = getD (walkOf F) i noPair .0
 
-abbrev pub blockAt : Func → ℕ → BlockLifting
-blockAt F i = getD (walkOf F) i noPair .1
+abbrev pub visitedBlock : Func → ℕ → BlockLifting
+visitedBlock F i = getD (walkOf F) i noPair .1
 
 abbrev nextOf : Option CfgPoint → CfgPoint
 nextOf none = regionEntry 0
 nextOf (some q) = q
 
-next-is : (T : Table) (i : ℕ) → nextOf (firstOf (drop (suc i) T) none) ≡ getD T (suc i) noPair .0
+next-is : (T : Table) (i : ℕ) → nextOf (firstInTable (drop (suc i) T) none) ≡ getD T (suc i) noPair .0
 next-is [] i = refl
 next-is (x ∷ []) zero = refl
 next-is (x ∷ y ∷ T) zero = refl
@@ -77,14 +77,14 @@ holds-low (x ∷ l) zero c h = omega arith
 holds-low (x ∷ l) (suc n) c h = omega (arith, holds-low l n c h)
 
 module _ (F : Func) (ok : Walkable F) where
-  place-from : (r : ℕ) (p : Place) → Placed F r p → p ≡ placeIn F r
+  place-from : (r : ℕ) (p : Place) → PlacedAs F r p → p ≡ placeIn F r
   place-from r top h = ap placeBy (sym (parent-none F r h))
   place-from r (inNode n) h =
-      let e : parentOf F r ≡ suc n = omega (arith, parent-is (ok .shaped .forest) n r (holds-low (F .nodes) n r h) h) in
+      let e : parentWord F r ≡ suc n = omega (arith, parent-is (ok .shaped .forest) n r (holds-low (F .nodes) n r h) h) in
       ap placeBy (sym e)
 
   place-is : {r : ℕ} {p : Place} → places.VisitedAt F r p → p ≡ placeIn F r
-  place-is {r} {p} v = place-from r p (placed F (ok .shaped .targets) v)
+  place-is {r} {p} v = place-from r p (placed-as F (ok .shaped .targets) v)
 
   step-block : {x : CfgPoint × BlockLifting} {o : Option CfgPoint} → Step F x o → x .1 ≡ blockOf F (x .0) (nextOf o)
   step-block (step-entry {r} v) = ap (entryBlock F r) (place-is v)
@@ -99,7 +99,7 @@ module _ (F : Func) (ok : Walkable F) where
   step-low (step-exit v a) = visited-low F (ok .shaped) v
 
   module _ (i : ℕ) (h : i < length (walkOf F)) where
-    pub block-is : blockAt F i ≡ blockOf F (pointAt F i) (pointAt F (suc i))
+    pub block-is : visitedBlock F i ≡ blockOf F (pointAt F i) (pointAt F (suc i))
     block-is = step-block (steps F (ok .shaped) i h) ∙ ap (blockOf F (pointAt F i)) (next-is (walkOf F) i)
 
     pub in-text : InText F (pointAt F i)

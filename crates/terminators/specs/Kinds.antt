@@ -13,7 +13,7 @@ use Rattle.lifting.specs.Walk.{childTerm, inBlock, loopTerm, rootTerm, someVals
 use Rattle.func.specs.declared.CtrlKind.{CtrlKind}
 use Rattle.func.specs.declared.CtrlKind.the-variants.{Unreachable, Return as ReturnCtrl, Branch, Bool as BoolCtrl, Inst as InstCtrl, Exit as ExitCtrl}
 use Rattle.func.specs.Decode.{firstValue, funcOf}
-use Rattle.func.specs.Tables.{Tables, ctrlLine}
+use Rattle.func.specs.Tables.{Tables, ctrlLineOf}
 use Rattle.walk_points.specs.Numbers.{pointNumber, pointOf}
 use Rattle.walk_points.specs.Walk.{Walkable}
 use Rattle.terminators.specs.declared.Point.{Point}
@@ -78,7 +78,7 @@ module _ (F : Func) where
   abbrev pub termOf : TermKind → Terminator
   termOf (Straight q) = straight (pointOf q)
   termOf (Return r) = rootTerm F none r
-  termOf (Line c) = lineTerm (ctrlLine F c .1)
+  termOf (Line c) = lineTerm (ctrlLineOf F c .1)
   termOf (Leave n) =
       record { attrs = 0; kind = inBlock F (nodeOf F n) n .term .kind; ins = nodeValues (nodeOf F n); targets = []; vals = []; merge = noMerge }
   termOf (Select n u) = record {

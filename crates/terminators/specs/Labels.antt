@@ -14,9 +14,9 @@ use Rattle.lifting.specs.Ast.{ControlInst, ControlInstKind, Func, Value, boolCo
 use Rattle.lifting.specs.Parts.{childrenOf, nodeOf, nodeValues, regionOf}
 use Rattle.lifting.specs.Points.{CfgPoint, Merge, Terminator, loopMerge, noMerge, nodeEntry, nodeExit, regionEntry, selectionMerge}
 use Rattle.lifting.specs.Walk.{inBlock, someVals, lineTerm}
-use Rattle.lifting.specs.Absorb.{ifBranch, ifEmpty, ifZero, labels, mergeLabels, single, soleTarget}
+use Rattle.lifting.specs.Absorb.{ifBranch, ifEmpty, ifZero, labels, mergeLabels, theOnly, soleTarget}
 use Rattle.func.specs.Decode.{funcOf}
-use Rattle.func.specs.Tables.{ctrlLine, ctrl-targets, list-count, node-children}
+use Rattle.func.specs.Tables.{ctrlLineOf, ctrl-targets, list-count, node-children}
 use Rattle.func.specs.Kinds.{ctrlKind}
 use Rattle.walk_points.specs.Numbers.{number-back, pointNumber}
 use Rattle.terminators.specs.declared.TermKind.{TermKind}
@@ -46,8 +46,8 @@ one-at {l} {p} i e h = go i (subst (λ (k : List CfgPoint). i < length k) e h) (
     go (suc i) h q = absurd (omega arith)
 
 -- the first of two, and the second
-pub first-at : (p q : CfgPoint) {i : ℕ} → i ≡ 0 → numberAt (p ∷ q ∷ []) i ≡ pointNumber p
-first-at p q e = ap (numberAt (p ∷ q ∷ [])) e
+pub first-label : (p q : CfgPoint) {i : ℕ} → i ≡ 0 → numberAt (p ∷ q ∷ []) i ≡ pointNumber p
+first-label p q e = ap (numberAt (p ∷ q ∷ [])) e
 
 pub second-at : (p q : CfgPoint) (i : ℕ) → i < 2 → ¬ (i ≡ 0) → numberAt (p ∷ q ∷ []) i ≡ pointNumber q
 second-at p q zero h e = absurd (e refl)
@@ -59,9 +59,9 @@ module _ {w : List ℕ} {x : TermKind} (k : Known w x) where
   to y = termOf (funcOf w) y .targets
 
   -- how many
-  pub line-count : {c : ℕ} → x ≡ Line c → {n : ℕ} → n ≡ length (ctrlLine (funcOf w) c .1 .to) → (n ≡ length (to x)) × (n ≤ 4095)
+  pub line-count : {c : ℕ} → x ≡ Line c → {n : ℕ} → n ≡ length (ctrlLineOf (funcOf w) c .1 .to) → (n ≡ length (to x)) × (n ≤ 4095)
   line-count {c} g {n} e = (
-    e ∙ sym (length-map (ctrlLine (funcOf w) c .1 .to) regionEntry) ∙ sym (ap (λ (y : TermKind). length (to y)) g),
+    e ∙ sym (length-map (ctrlLineOf (funcOf w) c .1 .to) regionEntry) ∙ sym (ap (λ (y : TermKind). length (to y)) g),
     omega (arith, list-count (ctrl-targets (k .tables) c (fits-as k g))),
   )
 
@@ -78,9 +78,9 @@ module _ {w : List ℕ} {x : TermKind} (k : Known w x) where
     pub target-one : {y : TermKind} {p : CfgPoint} → x ≡ y → to y ≡ p ∷ [] → {q : ℕ} → q ≡ pointNumber p → q ≡ numberAt (to x) i
     target-one {y} g e q = q ∙ sym (one-at i (ap to g ∙ e) h)
 
-    pub target-line : {c : ℕ} → x ≡ Line c → (i < length (ctrlLine (funcOf w) c .1 .to)) × (getD (ctrlLine (funcOf w) c .1 .to) i 0 < 128)
+    pub target-line : {c : ℕ} → x ≡ Line c → (i < length (ctrlLineOf (funcOf w) c .1 .to)) × (getD (ctrlLineOf (funcOf w) c .1 .to) i 0 < 128)
     target-line {c} g =
-        let l : i < length (ctrlLine (funcOf w) c .1 .to) = omega (arith, within g, length-map (ctrlLine (funcOf w) c .1 .to) regionEntry) in
+        let l : i < length (ctrlLineOf (funcOf w) c .1 .to) = omega (arith, within g, length-map (ctrlLineOf (funcOf w) c .1 .to) regionEntry) in
         (l, low-region k (k .walkable .named .target c i (fits-as k g) l))
 
     pub target-case : {s u : ℕ} → x ≡ Select s u → (i < length (childrenOf (nodeOf (funcOf w) s))) × (getD (childrenOf (nodeOf (funcOf w) s)) i 0 < 128)
@@ -143,12 +143,12 @@ empty-yes : {A : Type 0} (l : List A) (o : Option CfgPoint) → length l ≡ 0 �
 empty-yes [] o h = refl
 empty-yes (x ∷ l) o h = absurd (omega arith)
 
-single-no : (l : List CfgPoint) → ¬ (length l ≡ 1) → single l ≡ none
+single-no : (l : List CfgPoint) → ¬ (length l ≡ 1) → theOnly l ≡ none
 single-no [] h = refl
 single-no (p ∷ []) h = absurd (h refl)
 single-no (p ∷ q ∷ l) h = refl
 
-single-yes : (l : List CfgPoint) → length l ≡ 1 → single l ≡ some (getD l 0 (regionEntry 0))
+single-yes : (l : List CfgPoint) → length l ≡ 1 → theOnly l ≡ some (getD l 0 (regionEntry 0))
 single-yes [] h = absurd (omega arith)
 single-yes (p ∷ []) h = refl
 single-yes (p ∷ q ∷ l) h = absurd (omega arith)
@@ -162,7 +162,7 @@ module _ (c : ControlInst) where
   vals = lineTerm c .vals
 
   abbrev last : Option CfgPoint
-  last = single (lineTerm c .targets)
+  last = theOnly (lineTerm c .targets)
 
   from-branch : ifBranch (c .kind) (ifEmpty (c .ins) (ifEmpty vals last)) ≡ none → Sole-is Nowhere
   from-branch e = sym (ap asSole (ap (ifZero (c .attrs)) e ∙ zero-none (c .attrs)))
@@ -222,8 +222,8 @@ module _ (F : Func) {x : TermKind} where
   pub sole-as : {y : TermKind} {s : Sole} → x ≡ y → s ≡ soleOf F y → s ≡ soleOf F x
   sole-as g e = e ∙ sym (ap (soleOf F) g)
 
-  pub sole-straight : {q : ℕ} → x ≡ Straight q → To q ≡ soleOf F x
-  sole-straight {q} g = sole-as g (ap To (sym (number-back q)))
+  pub sole-to : {q : ℕ} → x ≡ Straight q → To q ≡ soleOf F x
+  sole-to {q} g = sole-as g (ap To (sym (number-back q)))
 
   pub sole-leave : {n : ℕ} → x ≡ Leave n → Nowhere ≡ soleOf F x
   sole-leave {n} g = sole-as g (barred (inBlock F (nodeOf F n) n .term .kind) (nodeValues (nodeOf F n)))

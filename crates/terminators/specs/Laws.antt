@@ -27,11 +27,11 @@ use Rattle.general_laws.specs.Members.{In, in-nil, length-tabulate}
 use Rattle.work.specs.Layout.{pointsAt}
 use Rattle.lifting_blocks.specs.Follow.{goesOn}
 use Rattle.lifting_blocks.specs.Laws.{follows}
-use Rattle.walk_points.specs.Numbers.{nodeBase, point-back, number-back, number-low, pointNumber, pointOf}
-use Rattle.walk_points.specs.Parents.{parent-has, parentOf}
+use Rattle.walk_points.specs.Numbers.{nodeBase, point-back, number-back, point-low, pointNumber, pointOf}
+use Rattle.walk_points.specs.Parents.{parent-has, parentWord}
 use Rattle.walk_points.specs.Walk.{Walkable, few-nodes}
-use Rattle.terminators.specs.At.{InText, blockAt, block-is, blockOf, in-text, placeBy, placeIn, pointAt}
-use Rattle.terminators.specs.Visited.{Visited, point-small, word-is}
+use Rattle.terminators.specs.At.{InText, visitedBlock, block-is, blockOf, in-text, placeBy, placeIn, pointAt}
+use Rattle.terminators.specs.Visited.{Visited, point-small, point-read}
 use Rattle.terminators.specs.declared.TermKind.{TermKind}
 use Rattle.terminators.specs.declared.TermKind.the-variants.{Straight, Return, Line, Select as SelectWay, Loop as LoopWay, Join, Repeat, Test}
 use Rattle.terminators.specs.Kinds.{TermIs, isLoop, termOf}
@@ -50,7 +50,7 @@ node = side nodeEntry nodeExit
 
 module _ {w u : List ℕ} {m : ℕ} (k : Visited w u m) (i : ℕ) (h : i < m) {p : ℕ} (e : p ≡ getD u (pointsAt + i) 0) where
   here : pointOf p ≡ pointAt (funcOf w) i
-  here = ap pointOf e ∙ sym (word-is k i h)
+  here = ap pointOf e ∙ sym (point-read k i h)
 
   low : p < nodeBase → {t : Bool} → eqb (p % 2) 0 ≡ t → region t p ≡ pointAt (funcOf w) i
   unfolding pointOf
@@ -82,24 +82,24 @@ module _ {w u : List ℕ} {m : ℕ} (k : Visited w u m) (i : ℕ) (h : i < m) wh
   of-text e = subst (InText (funcOf w)) (sym e) (in-text (funcOf w) (k .walkable) i inside)
 
   pub number-below : pointNumber (pointAt (funcOf w) i) < 512
-  number-below = number-low (pointAt (funcOf w) i) (point-small k i h)
+  number-below = point-low (pointAt (funcOf w) i) (point-small k i h)
 
-  pub block-of : {p : CfgPoint} → p ≡ pointAt (funcOf w) i → blockAt (funcOf w) i ≡ blockOf (funcOf w) p (pointAt (funcOf w) (suc i))
+  pub block-of : {p : CfgPoint} → p ≡ pointAt (funcOf w) i → visitedBlock (funcOf w) i ≡ blockOf (funcOf w) p (pointAt (funcOf w) (suc i))
   block-of e = block-is (funcOf w) (k .walkable) i inside ∙ ap (λ (q : CfgPoint). blockOf (funcOf w) q (pointAt (funcOf w) (suc i))) (sym e)
 
   -- the way out of a point from that of its block
   pub way-of : {p : CfgPoint} {x : TermKind} → p ≡ pointAt (funcOf w) i → TermIs (funcOf w) (blockOf (funcOf w) p (pointAt (funcOf w) (suc i)) .term) x
-      → TermIs (funcOf w) (blockAt (funcOf w) i .term) x
+      → TermIs (funcOf w) (visitedBlock (funcOf w) i .term) x
   way-of e y = record { is = ap (λ (b : BlockLifting). b .term) (block-of e) ∙ y .is; fits = y .fits }
 
 pub straight-on : {w u : List ℕ} {m : ℕ} → Visited w u m → (i : ℕ) → i < m → goesOn (funcOf w) (pointAt (funcOf w) i) ≡ true
-    → {p : ℕ} → p ≡ getD u (pointsAt + i + 1) 0 → TermIs (funcOf w) (blockAt (funcOf w) i .term) (Straight p)
+    → {p : ℕ} → p ≡ getD u (pointsAt + i + 1) 0 → TermIs (funcOf w) (visitedBlock (funcOf w) i .term) (Straight p)
 straight-on {w} {u} {m} k i h g {p} e =
     let f = follows (funcOf w) (k .walkable .shaped) i (omega (arith, k .count)) g in
     let l : suc i < m = omega (arith, f .0, k .count) in
     let at : pointsAt + i + 1 ≡ pointsAt + suc i = omega arith in
     let q : p ≡ getD u (pointsAt + suc i) 0 = e ∙ ap (λ (x : ℕ). getD u x 0) at in
-    let point : pointAt (funcOf w) (suc i) ≡ pointOf p = word-is k (suc i) l ∙ ap pointOf (sym q) in
+    let point : pointAt (funcOf w) (suc i) ≡ pointOf p = point-read k (suc i) l ∙ ap pointOf (sym q) in
     let number : pointNumber (pointAt (funcOf w) (suc i)) ≡ p = ap pointNumber point ∙ number-back p in
     record { is = f .1 ∙ ap straight point; fits = omega (arith, number-below k (suc i) l) }
 
@@ -145,17 +145,17 @@ module _ (F : Func) where
   loop-keys (loop b c is u) n e = sym (length-tabulate (regionInput b) 0 (length (regionOf F b .ins)))
   loop-keys (exit i vs) n e = absurd (false≢true e)
 
-  pub no-keys : (d : Node) (n : ℕ) → isLoop d ≡ false → 0 ≡ length (inBlock F d n .keys)
-  no-keys (block is) n e = refl
-  no-keys (select k v cs ds u) n e = refl
-  no-keys (loop b c is u) n e = absurd (false≢true (sym e))
-  no-keys (exit i vs) n e = refl
+  pub no-phis : (d : Node) (n : ℕ) → isLoop d ≡ false → 0 ≡ length (inBlock F d n .keys)
+  no-phis (block is) n e = refl
+  no-phis (select k v cs ds u) n e = refl
+  no-phis (loop b c is u) n e = absurd (false≢true (sym e))
+  no-phis (exit i vs) n e = refl
 
   pub body-keys : {r : ℕ} (p : Place) → r ≡ 0 → 0 ≡ length (entryKeys F r p)
   body-keys top e = sym (ap (λ (x : ℕ). length (entryKeys F x top)) e)
   body-keys (inNode n) e = sym (ap (λ (x : ℕ). length (entryKeys F x (inNode n))) e)
 
-  pub child-keys : (r : ℕ) {p : ℕ} → p ≡ parentOf F r → ¬ (p ≡ 0) → 0 ≡ length (entryKeys F r (placeIn F r))
+  pub child-keys : (r : ℕ) {p : ℕ} → p ≡ parentWord F r → ¬ (p ≡ 0) → 0 ≡ length (entryKeys F r (placeIn F r))
   child-keys r {p} e h = go r p h ∙ ap (λ (x : ℕ). length (entryKeys F r (placeBy x))) e
     where
       go : (r p : ℕ) → ¬ (p ≡ 0) → 0 ≡ length (entryKeys F r (placeBy p))
@@ -163,7 +163,7 @@ module _ (F : Func) where
       go zero (suc p) h = refl
       go (suc r) (suc p) h = refl
 
-  pub root-keys : (r : ℕ) {p : ℕ} → p ≡ parentOf F r → p ≡ 0 → ¬ (r ≡ 0) → length (regionOf F r .ins) ≡ length (entryKeys F r (placeIn F r))
+  pub root-keys : (r : ℕ) {p : ℕ} → p ≡ parentWord F r → p ≡ 0 → ¬ (r ≡ 0) → length (regionOf F r .ins) ≡ length (entryKeys F r (placeIn F r))
   root-keys r e z h = go r h ∙ ap (λ (x : ℕ). length (entryKeys F r (placeBy x))) (sym z ∙ e)
     where
       go : (r : ℕ) → ¬ (r ≡ 0) → length (regionOf F r .ins) ≡ length (entryKeys F r top)
@@ -212,17 +212,17 @@ module _ (F : Func) where
   join-way {n} {r} l i k = record { is = join-term (nodeOf F n) n r l i; fits = k }
 
   -- the parent's word says which
-  pub at-root : (r : ℕ) {p : ℕ} {x : TermKind} → p ≡ parentOf F r → p ≡ 0 → TermIs F (exitTerm F r top) x → TermIs F (exitTerm F r (placeIn F r)) x
+  pub at-root : (r : ℕ) {p : ℕ} {x : TermKind} → p ≡ parentWord F r → p ≡ 0 → TermIs F (exitTerm F r top) x → TermIs F (exitTerm F r (placeIn F r)) x
   at-root r {p} {x} e z h = subst (λ (y : ℕ). TermIs F (exitTerm F r (placeBy y)) x) (sym z ∙ e) h
 
-  pub in-node : (r : ℕ) {p : ℕ} {x : TermKind} → p ≡ parentOf F r → ¬ (p ≡ 0) → TermIs F (childTerm F (nodeOf F (p - 1)) (p - 1) (regionOf F r .outs)) x
+  pub in-node : (r : ℕ) {p : ℕ} {x : TermKind} → p ≡ parentWord F r → ¬ (p ≡ 0) → TermIs F (childTerm F (nodeOf F (p - 1)) (p - 1) (regionOf F r .outs)) x
       → TermIs F (exitTerm F r (placeIn F r)) x
   in-node r {p} {x} e z h =
-      let q : suc (p - 1) ≡ parentOf F r = omega arith in
+      let q : suc (p - 1) ≡ parentWord F r = omega arith in
       subst (λ (y : ℕ). TermIs F (exitTerm F r (placeBy y)) x) q h
 
-  pub held : (r : ℕ) {p : ℕ} → p ≡ parentOf F r → ¬ (p ≡ 0) → (p - 1 < length (F .nodes)) × In r (childrenOf (nodeOf F (p - 1)))
-  held r {p} e z = parent-has F r (p - 1) (omega arith)
+  pub held-child : (r : ℕ) {p : ℕ} → p ≡ parentWord F r → ¬ (p ≡ 0) → (p - 1 < length (F .nodes)) × In r (childrenOf (nodeOf F (p - 1)))
+  held-child r {p} e z = parent-has F r (p - 1) (omega arith)
 
   -- ---- ways out of a node's entry
 
@@ -268,7 +268,7 @@ module _ {w : List ℕ} (t : Tables w) {n : ℕ} (h : n < length (funcOf w .node
       → TermIs (funcOf w) (inBlock (funcOf w) (nodeOf (funcOf w) n) n .term) (Straight p)
   block-way e g {p} q = record {
     is = in-way (funcOf w) (nodeOf (funcOf w) n) n e g ∙ ap straight (sym (ap pointOf q ∙ point-back (nodeExit n) low-node));
-    fits = omega (arith, number-low (nodeExit n) low-node);
+    fits = omega (arith, point-low (nodeExit n) low-node);
   }
 
   -- a select has its control number

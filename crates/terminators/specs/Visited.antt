@@ -1,7 +1,7 @@
 -- What the functions of this crate ask: the walk is made, and its points and tables stand in the work slice. Assumes nothing.
 --     visited-walked    what the walk promises is as asked
 --     visited-kept, visited-below      it stays so where other words are written
---     word-is, point-word    the word of a position says the point
+--     point-read, point-word    the word of a position says the point
 --     point-small, label-small    points and labels have small numbers
 use mathlib.Core.Path.{_≡_, refl, sym, ap, _∙_}
 use mathlib.Core.List.{List, [], _∷_}
@@ -22,7 +22,7 @@ use Rattle.general_laws.specs.Members.{In, all-in, in-getD}
 use Rattle.walk_points.specs.Numbers.{Small, number-back, pointNumber, pointOf, visited, visited-at}
 use Rattle.walk_points.specs.Parents.{Parents}
 use Rattle.walk_points.specs.Walk.{Walkable, few-nodes, walk-small}
-use Rattle.terminators.specs.At.{blockAt, in-text, pointAt, small-text}
+use Rattle.terminators.specs.At.{visitedBlock, in-text, pointAt, small-text}
 
 -- m points of the function in the words w are listed in the words u
 pub record Visited (w u : List ℕ) (m : ℕ) : Type 0 where
@@ -69,11 +69,11 @@ points-at (x ∷ T) zero = refl
 points-at (x ∷ T) (suc i) = points-at T i
 
 module _ {w u : List ℕ} {m : ℕ} (k : Visited w u m) (i : ℕ) (h : i < m) where
-  pub word-is : pointAt (funcOf w) i ≡ pointOf (getD u (pointsAt + i) 0)
-  word-is = sym (points-at (walkOf (funcOf w)) i) ∙ visited-at u m (points (walkOf (funcOf w))) (k .order) i h (regionEntry 0)
+  pub point-read : pointAt (funcOf w) i ≡ pointOf (getD u (pointsAt + i) 0)
+  point-read = sym (points-at (walkOf (funcOf w)) i) ∙ visited-at u m (points (walkOf (funcOf w))) (k .order) i h (regionEntry 0)
 
   pub point-word : getD u (pointsAt + i) 0 ≡ pointNumber (pointAt (funcOf w) i)
-  point-word = sym (ap pointNumber word-is ∙ number-back (getD u (pointsAt + i) 0))
+  point-word = sym (ap pointNumber point-read ∙ number-back (getD u (pointsAt + i) 0))
 
   pub point-small : Small (pointAt (funcOf w) i)
   point-small =
@@ -81,7 +81,7 @@ module _ {w u : List ℕ} {m : ℕ} (k : Visited w u m) (i : ℕ) (h : i < m) wh
       (in-text (funcOf w) (k .walkable) i (omega (arith, k .count)))
 
   -- the labels of its block are small, as are the points of the walk
-  pub label-small : (q : CfgPoint) → In q (labels (blockAt (funcOf w) i .term)) → Small q
+  pub label-small : (q : CfgPoint) → In q (labels (visitedBlock (funcOf w) i .term)) → Small q
   label-small q l =
       let T : Table = walkOf (funcOf w) in
       all-in Small (points T) (walk-small (funcOf w) (k .walkable) (few-nodes (k .tables))) q

@@ -19,10 +19,10 @@ use Rattle.general_laws.specs.Members.{In, in-getD, length-tabulate}
 use Rattle.work.specs.Layout.{rootsEnd, linesAt, tablesEnd, pointsAt, pointsEnd, parentsAt, parentsEnd}
 use Rattle.work.specs.Aside.{Aside}
 use Rattle.walk_roots.specs.Tables.{Indexed}
-use Rattle.walk_roots.specs.Visit.{listed, listed-same}
+use Rattle.walk_roots.specs.Visit.{lastRoots, listed-same}
 use Rattle.walk_points.specs.Numbers.{pointNumber, visited, visited-sets, getD-tabulate}
 use Rattle.walk_points.specs.Below.{regionWords, walk-words}
-use Rattle.walk_points.specs.Parents.{parentOf, Parents}
+use Rattle.walk_points.specs.Parents.{parentWord, Parents}
 use Rattle.walk_points.specs.Walk.{Walkable, PointsReady, Walked, few-nodes, root-low, walk-small, walk-few, length-points}
 use Rattle.walk_points.specs.Words.{WalkWords, by-place}
 use Rattle.walk_points.proofs.Laws.{Turn, turn-first, turn-length, turn-room, turn-next, turn-all}
@@ -37,10 +37,10 @@ pub record Rooting (func w : List ℕ) (n i : ℕ) (work : List ℕ) (at : ℕ) 
   pub walkable : Walkable (funcOf func)
   pub size : pointsEnd ≤ length w
   pub few : n ≤ 128
-  pub order : listed w n ≡ roots (funcOf func)
+  pub order : lastRoots w n ≡ roots (funcOf func)
   pub turn : Turn (regionWords (funcOf func)) (roots (funcOf func)) w 0 i work at
 
-pub rooting-first : {func w : List ℕ} {n : ℕ} → Tables func → Walkable (funcOf func) → pointsEnd ≤ length w → listed w n ≡ roots (funcOf func)
+pub rooting-first : {func w : List ℕ} {n : ℕ} → Tables func → Walkable (funcOf func) → pointsEnd ≤ length w → lastRoots w n ≡ roots (funcOf func)
     → n ≤ length (funcOf func .regions) → Rooting func w n 0 w 0
 rooting-first {func} {w} {n} t ok z e h = record {
   tables = t;
@@ -103,7 +103,7 @@ module _ {func w : List ℕ} {n i : ℕ} {work : List ℕ} {at : ℕ} (s : Rooti
       record { number = omega (arith, d .0, walk-size (s .walkable)); words = d .1 ∙ ap (sets w pointsAt) (sym (walk-words F (s .walkable .shaped))) }
 
 -- the roots stand before the table of parents
-pub roots-kept : {v u : List ℕ} (n : ℕ) → Aside parentsAt parentsEnd v u → n ≤ 128 → listed u n ≡ listed v n
+pub roots-kept : {v u : List ℕ} (n : ℕ) → Aside parentsAt parentsEnd v u → n ≤ 128 → lastRoots u n ≡ lastRoots v n
 roots-kept {v} {u} n b h = listed-same v u n (omega arith) (λ x l g. b .before x (omega arith))
 
 -- what a run of stores leaves at one of its places
@@ -147,7 +147,7 @@ module _ {func w v u out : List ℕ} {m : ℕ} (t : Tables func) (ok : Walkable 
       ∙ ap (λ (j : ℕ). getD (sets u pointsAt (map pointNumber ps)) j 0) e
       ∙ at-in u (map pointNumber ps) pointsAt (x - pointsAt) (omega (arith, size)) (omega (arith, size, few))
 
-  parent : (x : ℕ) → parentsAt ≤ x → x < parentsEnd → getD out x 0 ≡ parentOf G (x - parentsAt)
+  parent : (x : ℕ) → parentsAt ≤ x → x < parentsEnd → getD out x 0 ≡ parentWord G (x - parentsAt)
   parent x g h =
       let e : x ≡ parentsAt + (x - parentsAt) = omega arith in
       after x (omega (arith, few)) ∙ ap (λ (j : ℕ). getD u j 0) e ∙ p .word (x - parentsAt) (omega arith)

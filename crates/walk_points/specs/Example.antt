@@ -14,7 +14,7 @@ use Rattle.lifting.specs.Points.{regionEntry, regionExit, nodeEntry, nodeExit, 
 use Rattle.lifting.specs.Walk.{walkOf}
 use Rattle.work.specs.Layout.{pointsAt, parentsAt, parentsEnd}
 use Rattle.walk_points.specs.Numbers.{pointNumber, pointOf}
-use Rattle.walk_points.specs.Parents.{parentOf}
+use Rattle.walk_points.specs.Parents.{parentWord}
 use Rattle.walk_points.specs.Words.{walkWord}
 
 -- a block, and a select whose second case holds a loop; region 4 follows region 0
@@ -38,7 +38,7 @@ numbers (some F) = map pointNumber (points (walkOf F))
 
 abbrev parents : Option Func → List ℕ
 parents none = []
-parents (some F) = map (parentOf F) (below 5)
+parents (some F) = map (parentWord F) (below 5)
 
 numbers-of : numbers (read text) ≡ 0 ∷ 256 ∷ 257 ∷ 258 ∷ 2 ∷ 3 ∷ 4 ∷ 260 ∷ 6 ∷ 7 ∷ 261 ∷ 5 ∷ 259 ∷ 1 ∷ 8 ∷ 9 ∷ []
 unfolding text read walkOf roots

@@ -1,6 +1,6 @@
 -- Points by number, and where the walk leaves them in the work slice: 512 words. Assumes nothing.
 --     point-back, number-back    the number of a point says which it is, and each number is a point's
---     number-low      a point of a text has a number below 512
+--     point-low      a point of a text has a number below 512
 --     visited-sets    words that hold the numbers of points say these points
 --     visited-at, visited-word    one of the points, and the word that says it
 --     points-few      points that stand once each are at most 512
@@ -18,7 +18,7 @@ use Rattle.general_laws.specs.Lists.{tabulate}
 use Rattle.lifting.specs.Points.{CfgPoint, regionEntry, regionExit, nodeEntry, nodeExit}
 use Rattle.general_laws.specs.Members.{In, All, NoDup, map-in, all-in}
 use Rattle.work.specs.Layout.{pointsAt}
-use Rattle.func_fits.specs.Fewer.{fewer-below}
+use Rattle.general_laws.specs.Fewer.{fewer-below}
 
 -- the first number of a node's point
 abbrev pub nodeBase : ℕ
@@ -91,11 +91,11 @@ number-back x = go (ltb x nodeBase) refl
     go true e = ap pointNumber (low-point x (ltb-true x nodeBase e)) ∙ region-side x
     go false e = let h : nodeBase ≤ x = ltb-false x nodeBase e in ap pointNumber (high-point x h) ∙ node-side (x - nodeBase) ∙ omega arith
 
-pub number-low : (p : CfgPoint) → Small p → pointNumber p < 512
-number-low (regionEntry r) h = omega arith
-number-low (regionExit r) h = omega arith
-number-low (nodeEntry n) h = omega arith
-number-low (nodeExit n) h = omega arith
+pub point-low : (p : CfgPoint) → Small p → pointNumber p < 512
+point-low (regionEntry r) h = omega arith
+point-low (regionExit r) h = omega arith
+point-low (nodeEntry n) h = omega arith
+point-low (nodeExit n) h = omega arith
 
 -- ---- what the words say
 
@@ -130,7 +130,7 @@ module _ (w : List ℕ) (m : ℕ) (ps : List CfgPoint) (e : visited w m ≡ ps) 
 
 numbers-low : (ps : List CfgPoint) → All Small ps → All (λ x. x < 512) (map pointNumber ps)
 numbers-low [] small = tt
-numbers-low (p ∷ ps) small = (number-low p (small .0), numbers-low ps (small .1))
+numbers-low (p ∷ ps) small = (point-low p (small .0), numbers-low ps (small .1))
 
 numbers-once : (ps : List CfgPoint) → All Small ps → NoDup ps → NoDup (map pointNumber ps)
 numbers-once [] small once = tt

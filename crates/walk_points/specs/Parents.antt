@@ -18,7 +18,8 @@ use Rattle.lifting.specs.Parts.{nodeOf, childrenOf}
 use Rattle.general_laws.specs.Members.{In, in-within, within-yes, within-no}
 use Rattle.lifting_runs.specs.Accepted.{Forest, Root}
 use Rattle.work.specs.Layout.{parentsAt, parentsEnd}
-use Rattle.work.specs.Aside.{Cleared, split}
+use Rattle.general_laws.specs.Tests.{split}
+use Rattle.work.specs.Aside.{Cleared}
 use Rattle.walk_roots.specs.Tables.{drop-one}
 
 -- a region's word by a list of nodes whose numbers begin at i
@@ -27,11 +28,11 @@ firstParent r i [] = 0
 firstParent r i (x ∷ l) = cond (within r (childrenOf x)) (suc i) (firstParent r (suc i) l)
 
 -- 0, or 1 + the first node that has the region as a child
-abbrev pub parentOf : Func → ℕ → ℕ
-parentOf F r = firstParent r 0 (F .nodes)
+abbrev pub parentWord : Func → ℕ → ℕ
+parentWord F r = firstParent r 0 (F .nodes)
 
 pub record Parents (F : Func) (w : List ℕ) : Type 0 where
-  pub word : (r : ℕ) → r < 128 → getD w (parentsAt + r) 0 ≡ parentOf F r
+  pub word : (r : ℕ) → r < 128 → getD w (parentsAt + r) 0 ≡ parentWord F r
 
 -- the words of all regions are 0
 pub record Empty (w : List ℕ) : Type 0 where
@@ -69,16 +70,16 @@ module _ (r : ℕ) where
       by-case true h e ih = (0, omega arith, omega arith, in-within r (childrenOf x) h)
       by-case false h e ih = let f = ih e in (suc (f .0), omega (arith, f .1), omega (arith, f .2), f .3)
 
-pub parent-is : {F : Func} → Forest F → (n c : ℕ) → n < length (F .nodes) → In c (childrenOf (nodeOf F n)) → parentOf F c ≡ 1 + n
+pub parent-is : {F : Func} → Forest F → (n c : ℕ) → n < length (F .nodes) → In c (childrenOf (nodeOf F n)) → parentWord F c ≡ 1 + n
 parent-is {F} t n c h i = first-is c (F .nodes) 0 n h i (λ k l j. omega (arith, t .child-once k n c j i)) ∙ omega arith
 
-pub parent-has : (F : Func) (c n : ℕ) → parentOf F c ≡ 1 + n → (n < length (F .nodes)) × In c (childrenOf (nodeOf F n))
+pub parent-has : (F : Func) (c n : ℕ) → parentWord F c ≡ 1 + n → (n < length (F .nodes)) × In c (childrenOf (nodeOf F n))
 parent-has F c n e =
     let f = first-has c (F .nodes) 0 n (e ∙ omega arith) in
     let q : f .0 ≡ n = omega (arith, f .1) in
     (omega (arith, f .2), subst (λ (k : ℕ). In c (childrenOf (nodeOf F k))) q (f .3))
 
-pub parent-none : (F : Func) (r : ℕ) → Root F r → parentOf F r ≡ 0
+pub parent-none : (F : Func) (r : ℕ) → Root F r → parentWord F r ≡ 0
 parent-none F r h = first-none r (F .nodes) 0 h
 
 -- ---- the table is filled

@@ -15,7 +15,7 @@ use Rattle.lifting.specs.Points.{points}
 use Rattle.lifting.specs.Walk.{walkOf}
 use Rattle.work.specs.Layout.{tablesEnd, pointsAt, parentsAt, parentsEnd}
 use Rattle.walk_points.specs.Numbers.{pointNumber}
-use Rattle.walk_points.specs.Parents.{parentOf}
+use Rattle.walk_points.specs.Parents.{parentWord}
 
 -- where the numbers of the visited points end
 abbrev pub walkEnd : Func → ℕ
@@ -27,7 +27,7 @@ walkWord F old x =
     cond (ltb x pointsAt) (old x)
     (cond (ltb x (walkEnd F)) (getD (map pointNumber (points (walkOf F))) (x - pointsAt) 0)
     (cond (ltb x parentsAt) (old x)
-    (cond (ltb x parentsEnd) (parentOf F (x - parentsAt)) (old x))))
+    (cond (ltb x parentsEnd) (parentWord F (x - parentsAt)) (old x))))
 
 -- the walk made u of w
 pub record WalkWords (F : Func) (w u : List ℕ) : Type 0 where
@@ -44,14 +44,14 @@ module _ (F : Func) (old : ℕ → ℕ) where
       ∙ lower (pointsAt + i) (walkEnd F) _ _ (omega arith)
       ∙ ap (λ (k : ℕ). getD (map pointNumber (points (walkOf F))) k 0) (omega arith)
 
-  pub word-parent : length (walkOf F) ≤ 512 → (r : ℕ) → r < 128 → walkWord F old (parentsAt + r) ≡ parentOf F r
+  pub word-parent : length (walkOf F) ≤ 512 → (r : ℕ) → r < 128 → walkWord F old (parentsAt + r) ≡ parentWord F r
   unfolding walkWord
   word-parent few r h =
       higher (parentsAt + r) pointsAt _ _ (omega arith)
       ∙ higher (parentsAt + r) (walkEnd F) _ _ (omega arith)
       ∙ higher (parentsAt + r) parentsAt _ _ (omega arith)
       ∙ lower (parentsAt + r) parentsEnd _ _ (omega arith)
-      ∙ ap (parentOf F) (omega arith)
+      ∙ ap (parentWord F) (omega arith)
 
   module _ (x : ℕ) where
     -- one that it leaves
@@ -73,7 +73,7 @@ module _ (F : Func) (old : ℕ → ℕ) where
 
     -- any
     pub by-place : {z : ℕ} → (x < pointsAt → z ≡ old x) → (pointsAt ≤ x → x < walkEnd F → z ≡ getD (map pointNumber (points (walkOf F))) (x - pointsAt) 0)
-        → (walkEnd F ≤ x → x < parentsAt → z ≡ old x) → (parentsAt ≤ x → x < parentsEnd → z ≡ parentOf F (x - parentsAt)) → (parentsEnd ≤ x → z ≡ old x)
+        → (walkEnd F ≤ x → x < parentsAt → z ≡ old x) → (parentsAt ≤ x → x < parentsEnd → z ≡ parentWord F (x - parentsAt)) → (parentsEnd ≤ x → z ≡ old x)
         → z ≡ walkWord F old x
     unfolding walkWord
     by-place before point between parent after =

@@ -22,7 +22,7 @@ ghost use Rattle.func.specs.Decode.{funcOf};
 ghost use Rattle.func.specs.Tables.{Tables};
 ghost use Rattle.work.specs.Layout.{rootsEnd, pointsAt, pointsEnd, workNeed};
 ghost use Rattle.walk_roots.specs.Tables.{Indexed};
-ghost use Rattle.walk_roots.specs.Visit.{listed};
+ghost use Rattle.walk_roots.specs.Visit.{lastRoots};
 ghost use Rattle.walk_points.specs.Numbers.{visited};
 ghost use Rattle.walk_points.specs.Below.{regionWords, nodeWords};
 ghost use Rattle.walk_points.specs.Parents.{Parents};
@@ -91,7 +91,7 @@ fn walk_roots(func: &[u32], work: &mut [u32], n: usize) -> usize
     requires { ⌜ Tables (now func) ⌝ }
     requires { ⌜ Walkable (funcOf (now func)) ⌝ }
     requires { ⌜ pointsEnd ≤ length (now work) ⌝ }
-    requires { ⌜ (listed (now work) n ≡ roots (funcOf (now func))) × (n ≤ length (funcOf (now func) .regions)) ⌝ }
+    requires { ⌜ (lastRoots (now work) n ≡ roots (funcOf (now func))) × (n ≤ length (funcOf (now func) .regions)) ⌝ }
     ensures { λ m. ⌜ Walked (funcOf (now (func .entry))) (now (work .entry)) (now (work .exit)) m ⌝ }
     ensures { λ _. ⌜ length (now (work .exit)) ≡ length (now (work .entry)) ⌝ }
 {

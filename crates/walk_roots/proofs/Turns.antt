@@ -15,18 +15,19 @@ use Rattle.func.specs.declared.CtrlAt.{CtrlAt}
 use Rattle.func.specs.declared.CtrlAt.the-variants.{At, Nothing}
 use Rattle.func.specs.Search.{CtrlIs, CtrlHere}
 use Rattle.func.specs.Decode.{funcOf}
-use Rattle.func.specs.Tables.{Tables, ctrlLine}
+use Rattle.func.specs.Tables.{Tables, ctrlLineOf}
 use Rattle.work.specs.Layout.{rootsEnd, linesAt, marksAt, tablesEnd}
-use Rattle.work.specs.Aside.{split, Aside, aside-none, aside-more, aside-set}
-use Rattle.walk_roots.specs.Tables.{RegionsNamed, Indexed, Marked, marked-more, marked-not, marked-is, line-none, line-here}
-use Rattle.walk_roots.specs.Visit.{ways, listed, unseen, unseen-same, unseen-set, unseen-most, WalkStands, RootsLow, WalkReady, RootsVisited, ahead, ahead-all, listed-same, listed-more}
+use Rattle.general_laws.specs.Tests.{split}
+use Rattle.work.specs.Aside.{Aside, aside-none, aside-more, aside-set}
+use Rattle.walk_roots.specs.Tables.{RegionsNamed, Indexed, RegionsMarked, marked-more, marked-not, marked-is, line-none, line-here}
+use Rattle.walk_roots.specs.Visit.{ways, lastRoots, unseen, unseen-same, unseen-set, unseen-most, WalkStands, RootsLow, WalkReady, RootsVisited, ahead, ahead-all, listed-same, listed-more}
 
 -- a ctrl line that was found, or none
 module _ (F : Func) (r : ℕ) where
   pub here : {x : CtrlAt} {i : ℕ} → x ≡ At i → CtrlIs x F r → CtrlHere F r i
   here e h = subst (λ (y : CtrlAt). CtrlIs y F r) e h
 
-  pub here-ways : {i : ℕ} → CtrlHere F r i → ways F r ≡ ctrlLine F i .1 .to
+  pub here-ways : {i : ℕ} → CtrlHere F r i → ways F r ≡ ctrlLineOf F i .1 .to
   here-ways h = ap targetsOf (h .is)
 
   pub no-ways : {x : CtrlAt} → x ≡ Nothing → CtrlIs x F r → ways F r ≡ []
@@ -40,7 +41,7 @@ way-low {F} {w} h k r l i b = go (getD w (linesAt + r) 0) refl
     go zero e = let q : length (ways F r) ≡ 0 = ap (λ o. length (targetsOf o)) (line-none k r l e) in absurd (omega arith)
     go (suc c) e =
         let c-here = line-here k r l c e in
-        let q : ways F r ≡ ctrlLine F c .1 .to = here-ways F r c-here in
+        let q : ways F r ≡ ctrlLineOf F c .1 .to = here-ways F r c-here in
         subst (λ (ts : List ℕ). getD ts i 0 < length (F .regions)) (sym q) (h .target c i (c-here .below) (subst (λ (ts : List ℕ). i < length ts) q b))
 
 -- roots are visited one after the other, k deep
@@ -100,7 +101,7 @@ module _ {func w : List ℕ} {r n : ℕ} (p : WalkReady func w r n) {u : List �
   marked s k =
       let h = in-room in
       record {
-        marks = subst (λ (z : List ℕ). Marked marksAt (r ∷ s .seen) z) (sym e) (marked-more (k .marks) r (omega (arith, p .known, p .named .few)) (omega (arith, p .known, p .named .few, p .size)));
+        marks = subst (λ (z : List ℕ). RegionsMarked marksAt (r ∷ s .seen) z) (sym e) (marked-more (k .marks) r (omega (arith, p .known, p .named .few)) (omega (arith, p .known, p .named .few, p .size)));
         order = listed-same w u n (omega arith) (λ x l b. other x (omega arith)) ∙ k .order;
       }
 
@@ -149,8 +150,8 @@ module _ {func w : List ℕ} {r n : ℕ} (p : WalkReady func w r n) {u : List �
         (record {
           marks = record { mark = λ x g. above (marksAt + x) (omega arith) ∙ q .stands .marks .mark x g };
           order =
-              ap (λ (y : ℕ). listed out y) em
-              ∙ ap (λ (y : List ℕ). listed y (at + 1)) eo
+              ap (λ (y : ℕ). lastRoots out y) em
+              ∙ ap (λ (y : List ℕ). lastRoots y (at + 1)) eo
               ∙ listed-more work at r (omega (arith, at-low)) here-at
               ∙ ap (λ (y : List ℕ). r ∷ y) (q .stands .order);
         })
@@ -262,7 +263,7 @@ module _ {func : List ℕ} {r n : ℕ} {w : List ℕ} {i : ℕ} {work : List ℕ
         }
 
 -- the walk begins at region 0
-pub ready-first : {func w : List ℕ} → Tables func → RegionsNamed (funcOf func) → 0 < length (funcOf func .regions) → Indexed (funcOf func) w → Marked marksAt [] w → tablesEnd ≤ length w → WalkReady func w 0 0
+pub ready-first : {func w : List ℕ} → Tables func → RegionsNamed (funcOf func) → 0 < length (funcOf func .regions) → Indexed (funcOf func) w → RegionsMarked marksAt [] w → tablesEnd ≤ length w → WalkReady func w 0 0
 ready-first {func} {w} t h some k m z = record {
   tables = t;
   named = h;
@@ -276,7 +277,7 @@ ready-first {func} {w} t h some k m z = record {
 
 -- and what it leaves is the roots
 module _ {F : Func} {w u : List ℕ} {n : ℕ} (v : RootsVisited F w 0 0 u n) where
-  pub order-is : Marked marksAt [] w → listed u n ≡ roots F
+  pub order-is : RegionsMarked marksAt [] w → lastRoots u n ≡ roots F
   unfolding roots
   order-is m =
       let s : Seen = record { seen = []; order = [] } in

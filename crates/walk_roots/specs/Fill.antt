@@ -13,10 +13,10 @@ use Rattle.lifting.specs.Parts.{nodeOf, childrenOf, childList}
 use Rattle.lifting.specs.Control.{isRoot}
 use Rattle.func.specs.Decode.{funcOf}
 use Rattle.func.specs.Layout.{ctrls}
-use Rattle.func.specs.Tables.{Tables, ctrlLine, ctrl-total}
+use Rattle.func.specs.Tables.{Tables, ctrlLineOf, ctrl-total}
 use Rattle.work.specs.Layout.{linesAt, childrenAt, tablesEnd, marksAt}
 use Rattle.work.specs.Aside.{Aside, aside-none, aside-more, aside-set}
-use Rattle.walk_roots.specs.Tables.{RegionsNamed, TablesBlank, LinesFrom, Indexed, Marked, blank-lines, marked-more, drop-one, lines-more, once-more}
+use Rattle.walk_roots.specs.Tables.{RegionsNamed, TablesBlank, LinesFrom, Indexed, RegionsMarked, blank-lines, marked-more, drop-one, line-words-more, once-more}
 
 -- the ctrl lines from line i on are in the table
 pub record Filling (func w : List ℕ) (i : ℕ) (work : List ℕ) (once : Bool) : Type 0 where
@@ -41,7 +41,7 @@ fill-first {func} {w} t h z b {i} e = record {
   is = sym (ap (λ (k : ℕ). distinct (keys (drop k (funcOf func .ctrls)))) e ∙ ap (λ (l : List (ℕ × ControlInst)). distinct (keys l)) (drop-length (funcOf func .ctrls)));
 }
 
-module _ {func w : List ℕ} {i : ℕ} {work : List ℕ} {once : Bool} (f : Filling func w i work once) (more : 0 < i) {r : ℕ} (er : r ≡ ctrlLine (funcOf func) (i - 1) .0) where
+module _ {func w : List ℕ} {i : ℕ} {work : List ℕ} {once : Bool} (f : Filling func w i work once) (more : 0 < i) {r : ℕ} (er : r ≡ ctrlLineOf (funcOf func) (i - 1) .0) where
   line-low : r < 128
   line-low = omega (arith, f .named .line (i - 1) (omega (arith, f .below)), f .named .few)
 
@@ -70,7 +70,7 @@ module _ {func w : List ℕ} {i : ℕ} {work : List ℕ} {once : Bool} (f : Fill
       same = ap length eo ∙ length-set work (linesAt + r) (i - 1 + 1) ∙ f .same;
       aside = subst (Aside linesAt childrenAt w) (sym eo) (aside-set (f .aside) (linesAt + r) (i - 1 + 1) (omega arith) (omega (arith, line-low)));
       lines = subst (LinesFrom (funcOf func) (i - 1)) (sym (eo ∙ ap (λ (k : ℕ). set work (linesAt + k) (i - 1 + 1)) er))
-          (lines-more (funcOf func) work (i - 1) (omega (arith, f .below)) lines-next (omega (arith, line-low)) (omega (arith, f .size, f .same)));
+          (line-words-more (funcOf func) work (i - 1) (omega (arith, f .below)) lines-next (omega (arith, line-low)) (omega (arith, f .size, f .same)));
       is = eb ∙ sym once-is;
     }
 
@@ -96,7 +96,7 @@ pub record Marking (func : List ℕ) (n : ℕ) (w : List ℕ) (i : ℕ) (work : 
   pub below : i ≤ length (childrenOf (nodeOf (funcOf func) n))
   pub same : length work ≡ length w
   pub aside : Aside childrenAt marksAt w work
-  pub marks : (l : List ℕ) → Marked childrenAt l w → Marked childrenAt (drop i (childrenOf (nodeOf (funcOf func) n)) ++ l) work
+  pub marks : (l : List ℕ) → RegionsMarked childrenAt l w → RegionsMarked childrenAt (drop i (childrenOf (nodeOf (funcOf func) n)) ++ l) work
 
 pub marking-first : {func w : List ℕ} {n : ℕ} → Tables func → RegionsNamed (funcOf func) → n < length (funcOf func .nodes) → tablesEnd ≤ length w
     → {i : ℕ} → i ≡ length (childrenOf (nodeOf (funcOf func) n)) → Marking func n w i w
@@ -108,7 +108,7 @@ marking-first {func} {w} {n} t h k z {i} e = record {
   below = omega arith;
   same = refl;
   aside = aside-none childrenAt marksAt w;
-  marks = λ l m. subst (λ (y : List ℕ). Marked childrenAt (y ++ l) w) (sym (ap (λ (j : ℕ). drop j (childrenOf (nodeOf (funcOf func) n))) e ∙ drop-length (childrenOf (nodeOf (funcOf func) n)))) m;
+  marks = λ l m. subst (λ (y : List ℕ). RegionsMarked childrenAt (y ++ l) w) (sym (ap (λ (j : ℕ). drop j (childrenOf (nodeOf (funcOf func) n))) e ∙ drop-length (childrenOf (nodeOf (funcOf func) n)))) m;
 }
 
 module _ {func : List ℕ} {n : ℕ} {w : List ℕ} {i : ℕ} {work : List ℕ} (f : Marking func n w i work) where
@@ -128,29 +128,29 @@ module _ {func : List ℕ} {n : ℕ} {w : List ℕ} {i : ℕ} {work : List ℕ} 
           same = length-set work (childrenAt + r) 1 ∙ f .same;
           aside = aside-set (f .aside) (childrenAt + r) 1 (omega arith) (omega (arith, marking-low .0));
           marks = λ l m.
-              subst (λ (y : List ℕ). Marked childrenAt (y ++ l) (set work (childrenAt + r) 1))
+              subst (λ (y : List ℕ). RegionsMarked childrenAt (y ++ l) (set work (childrenAt + r) 1))
               (sym (drop-one (childrenOf (nodeOf (funcOf func) n)) (i - 1) 0 (omega (arith, f .below))
               ∙ ap (λ (y : ℕ). y ∷ drop (i - 1 + 1) (childrenOf (nodeOf (funcOf func) n))) (sym er)
               ∙ ap (λ (y : ℕ). r ∷ drop y (childrenOf (nodeOf (funcOf func) n))) q))
               (marked-more (f .marks l m) r (marking-low .0) (omega (arith, marking-low)));
         }
 
-  pub marking-done : i ≤ 0 → (l : List ℕ) → Marked childrenAt l w → Marked childrenAt (childrenOf (nodeOf (funcOf func) n) ++ l) work
+  pub marking-done : i ≤ 0 → (l : List ℕ) → RegionsMarked childrenAt l w → RegionsMarked childrenAt (childrenOf (nodeOf (funcOf func) n) ++ l) work
   marking-done z l m =
       let q : i ≡ 0 = omega arith in
-      subst (λ (y : ℕ). Marked childrenAt (drop y (childrenOf (nodeOf (funcOf func) n)) ++ l) work) q (f .marks l m)
+      subst (λ (y : ℕ). RegionsMarked childrenAt (drop y (childrenOf (nodeOf (funcOf func) n)) ++ l) work) q (f .marks l m)
 
 -- the children of the nodes from node i on are
-pub record Nodes (func w : List ℕ) (i : ℕ) (work : List ℕ) : Type 0 where
+pub record NodesFilled (func w : List ℕ) (i : ℕ) (work : List ℕ) : Type 0 where
   pub tables : Tables func
   pub named : RegionsNamed (funcOf func)
   pub size : tablesEnd ≤ length w
   pub below : i ≤ length (funcOf func .nodes)
   pub same : length work ≡ length w
   pub aside : Aside childrenAt marksAt w work
-  pub marks : Marked childrenAt (gather childrenOf (drop i (funcOf func .nodes))) work
+  pub marks : RegionsMarked childrenAt (gather childrenOf (drop i (funcOf func .nodes))) work
 
-pub nodes-first : {func w : List ℕ} → Tables func → RegionsNamed (funcOf func) → tablesEnd ≤ length w → Marked childrenAt [] w → {i : ℕ} → i ≡ length (funcOf func .nodes) → Nodes func w i w
+pub nodes-first : {func w : List ℕ} → Tables func → RegionsNamed (funcOf func) → tablesEnd ≤ length w → RegionsMarked childrenAt [] w → {i : ℕ} → i ≡ length (funcOf func .nodes) → NodesFilled func w i w
 nodes-first {func} {w} t h z m {i} e = record {
   tables = t;
   named = h;
@@ -158,12 +158,12 @@ nodes-first {func} {w} t h z m {i} e = record {
   below = omega arith;
   same = refl;
   aside = aside-none childrenAt marksAt w;
-  marks = subst (λ (y : List Node). Marked childrenAt (gather childrenOf y) w) (sym (ap (λ (j : ℕ). drop j (funcOf func .nodes)) e ∙ drop-length (funcOf func .nodes))) m;
+  marks = subst (λ (y : List Node). RegionsMarked childrenAt (gather childrenOf y) w) (sym (ap (λ (j : ℕ). drop j (funcOf func .nodes)) e ∙ drop-length (funcOf func .nodes))) m;
 }
 
-module _ {func w : List ℕ} {i : ℕ} {work : List ℕ} (f : Nodes func w i work) where
-  pub nodes-next : 0 < i → {out : List ℕ} → ((l : List ℕ) → Marked childrenAt l work → Marked childrenAt (childrenOf (nodeOf (funcOf func) (i - 1)) ++ l) out)
-      → Aside childrenAt marksAt work out → length out ≡ length work → Nodes func w (i - 1) out
+module _ {func w : List ℕ} {i : ℕ} {work : List ℕ} (f : NodesFilled func w i work) where
+  pub nodes-next : 0 < i → {out : List ℕ} → ((l : List ℕ) → RegionsMarked childrenAt l work → RegionsMarked childrenAt (childrenOf (nodeOf (funcOf func) (i - 1)) ++ l) out)
+      → Aside childrenAt marksAt work out → length out ≡ length work → NodesFilled func w (i - 1) out
   nodes-next more {out} m b z =
       let q : i ≡ i - 1 + 1 = omega arith in
       record {
@@ -173,16 +173,16 @@ module _ {func w : List ℕ} {i : ℕ} {work : List ℕ} (f : Nodes func w i wor
         below = omega (arith, f .below);
         same = z ∙ f .same;
         aside = aside-more (f .aside) b;
-        marks = subst (λ (y : List Node). Marked childrenAt (gather childrenOf y) out) (sym (drop-one (funcOf func .nodes) (i - 1) (block []) (omega (arith, f .below))))
-            (m (gather childrenOf (drop (i - 1 + 1) (funcOf func .nodes))) (subst (λ (j : ℕ). Marked childrenAt (gather childrenOf (drop j (funcOf func .nodes))) work) q (f .marks)));
+        marks = subst (λ (y : List Node). RegionsMarked childrenAt (gather childrenOf y) out) (sym (drop-one (funcOf func .nodes) (i - 1) (block []) (omega (arith, f .below))))
+            (m (gather childrenOf (drop (i - 1 + 1) (funcOf func .nodes))) (subst (λ (j : ℕ). RegionsMarked childrenAt (gather childrenOf (drop j (funcOf func .nodes))) work) q (f .marks)));
       }
 
-  pub nodes-done : i ≤ 0 → Marked childrenAt (childList (funcOf func)) work
+  pub nodes-done : i ≤ 0 → RegionsMarked childrenAt (childList (funcOf func)) work
   unfolding childList
-  nodes-done z = let q : i ≡ 0 = omega arith in subst (λ (j : ℕ). Marked childrenAt (gather childrenOf (drop j (funcOf func .nodes))) work) q (f .marks)
+  nodes-done z = let q : i ≡ 0 = omega arith in subst (λ (j : ℕ). RegionsMarked childrenAt (gather childrenOf (drop j (funcOf func .nodes))) work) q (f .marks)
 
 -- what a mark says of a region
-pub mark-root : (F : Func) {w : List ℕ} → Marked childrenAt (childList F) w → (r : ℕ) → r < 128 → eqb (getD w (childrenAt + r) 0) 0 ≡ isRoot F r
+pub mark-root : (F : Func) {w : List ℕ} → RegionsMarked childrenAt (childList F) w → (r : ℕ) → r < 128 → eqb (getD w (childrenAt + r) 0) 0 ≡ isRoot F r
 mark-root F {w} m r h = ap (λ (v : ℕ). eqb v 0) (m .mark r h) ∙ go (within r (childList F))
   where
     go : (b : Bool) → eqb (cond b 1 0) 0 ≡ not b

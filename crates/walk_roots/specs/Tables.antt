@@ -2,7 +2,7 @@
 --     blank-..       words that are 0
 --     marked-..      marks that are set one after the other, and what they say
 --     line-none, line-here, line-known     what the word of a region says of its ctrl line
---     lines-more, once-more     the table of ctrl lines, filled from the last line to the first
+--     line-words-more, once-more     the table of ctrl lines, filled from the last line to the first
 use mathlib.Core.Path.{_≡_, refl, sym, ap, subst, _∙_}
 use mathlib.Core.Bool.{Bool, true, false, cond, not, _&&_}
 use mathlib.Core.List.{List, [], _∷_}
@@ -18,17 +18,18 @@ use borrow.Author.Tests.{ne-eqb}
 use Rattle.general_laws.specs.Lists.{choose, choose-yes, choose-no, find, within, distinct, keys}
 use Rattle.lifting.specs.Ast.{unreachable, ControlInst, Func}
 use Rattle.lifting.specs.Parts.{nodeOf, childrenOf, ctrlOf}
-use Rattle.func.specs.Tables.{ctrlLine}
+use Rattle.func.specs.Tables.{ctrlLineOf}
 use Rattle.func.specs.Search.{CtrlHere}
 use Rattle.work.specs.Layout.{linesAt, childrenAt, tablesEnd, marksAt}
-use Rattle.work.specs.Aside.{Aside, split, Cleared}
+use Rattle.general_laws.specs.Tests.{split}
+use Rattle.work.specs.Aside.{Aside, Cleared}
 
 -- Children, ctrl lines and targets name regions, of which there are at most 128.
 pub record RegionsNamed (F : Func) : Type 0 where
   pub few : length (F .regions) ≤ 128
   pub child : (n i : ℕ) → n < length (F .nodes) → i < length (childrenOf (nodeOf F n)) → getD (childrenOf (nodeOf F n)) i 0 < length (F .regions)
-  pub line : (c : ℕ) → c < length (F .ctrls) → ctrlLine F c .0 < length (F .regions)
-  pub target : (c i : ℕ) → c < length (F .ctrls) → i < length (ctrlLine F c .1 .to) → getD (ctrlLine F c .1 .to) i 0 < length (F .regions)
+  pub line : (c : ℕ) → c < length (F .ctrls) → ctrlLineOf F c .0 < length (F .regions)
+  pub target : (c i : ℕ) → c < length (F .ctrls) → i < length (ctrlLineOf F c .1 .to) → getD (ctrlLineOf F c .1 .to) i 0 < length (F .regions)
 
 -- what a number that names no line stands for
 abbrev pub noLine : ℕ × ControlInst
@@ -39,20 +40,20 @@ pub record TablesBlank (w : List ℕ) : Type 0 where
   pub word : (x : ℕ) → linesAt ≤ x → x < tablesEnd → getD w x 0 ≡ 0
 
 -- the word of a region in a list of lines whose numbers begin at i: 0 where it has none, else 1 + the number of its first
-abbrev pub firstLine : {A : Type 0} → ℕ → ℕ → List (ℕ × A) → ℕ
-firstLine r i [] = 0
-firstLine r i (x ∷ l) = choose (ℕ-discrete r (x .0)) (suc i) (firstLine r (suc i) l)
+abbrev pub lineWord : {A : Type 0} → ℕ → ℕ → List (ℕ × A) → ℕ
+lineWord r i [] = 0
+lineWord r i (x ∷ l) = choose (ℕ-discrete r (x .0)) (suc i) (lineWord r (suc i) l)
 
 -- the table of the ctrl lines from line i on
 abbrev pub LinesFrom : Func → ℕ → List ℕ → Type 0
-LinesFrom F i w = (r : ℕ) → r < 128 → getD w (linesAt + r) 0 ≡ firstLine r i (drop i (F .ctrls))
+LinesFrom F i w = (r : ℕ) → r < 128 → getD w (linesAt + r) 0 ≡ lineWord r i (drop i (F .ctrls))
 
 -- the table of all ctrl lines
 pub record Indexed (F : Func) (w : List ℕ) : Type 0 where
-  pub line : (r : ℕ) → r < 128 → getD w (linesAt + r) 0 ≡ firstLine r 0 (F .ctrls)
+  pub line : (r : ℕ) → r < 128 → getD w (linesAt + r) 0 ≡ lineWord r 0 (F .ctrls)
 
 -- the table at word b has the mark 1 for each region of a list, and 0 for the others
-pub record Marked (b : ℕ) (l w : List ℕ) : Type 0 where
+pub record RegionsMarked (b : ℕ) (l w : List ℕ) : Type 0 where
   pub mark : (x : ℕ) → x < 128 → getD w (b + x) 0 ≡ cond (within x l) 1 0
 
 -- ---- words that are 0
@@ -61,19 +62,19 @@ pub blank-cleared : {w u : List ℕ} → Cleared linesAt tablesEnd w u → Table
 blank-cleared k = record { word = k .blank }
 
 module _ {w : List ℕ} (k : TablesBlank w) where
-  pub blank-marked : (b : ℕ) → linesAt ≤ b → b + 128 ≤ tablesEnd → Marked b [] w
+  pub blank-marked : (b : ℕ) → linesAt ≤ b → b + 128 ≤ tablesEnd → RegionsMarked b [] w
   blank-marked b a l = record { mark = λ x h. k .word (b + x) (omega arith) (omega arith) }
 
   pub blank-lines : (F : Func) → LinesFrom F (length (F .ctrls)) w
-  blank-lines F r h = k .word (linesAt + r) (omega arith) (omega arith) ∙ ap (firstLine r (length (F .ctrls))) (sym (drop-length (F .ctrls)))
+  blank-lines F r h = k .word (linesAt + r) (omega arith) (omega arith) ∙ ap (lineWord r (length (F .ctrls))) (sym (drop-length (F .ctrls)))
 
 -- ---- marks
 
 -- marks stay where a table before theirs is filled
-pub marked-aside : {a c b : ℕ} {l w u : List ℕ} → Marked b l w → Aside a c w u → c ≤ b → Marked b l u
+pub marked-aside : {a c b : ℕ} {l w u : List ℕ} → RegionsMarked b l w → Aside a c w u → c ≤ b → RegionsMarked b l u
 marked-aside {b = b} k s h = record { mark = λ x g. s .after (b + x) (omega arith) ∙ k .mark x g }
 
-pub marked-more : {b : ℕ} {l w : List ℕ} → Marked b l w → (r : ℕ) → r < 128 → b + r < length w → Marked b (r ∷ l) (set w (b + r) 1)
+pub marked-more : {b : ℕ} {l w : List ℕ} → RegionsMarked b l w → (r : ℕ) → r < 128 → b + r < length w → RegionsMarked b (r ∷ l) (set w (b + r) 1)
 marked-more {b} {l} {w} k r h z = record {
   mark = λ x g. split (ℕ-discrete x r)
       (λ e.
@@ -84,7 +85,7 @@ marked-more {b} {l} {w} k r h z = record {
 }
 
 -- what a mark says
-module _ {b : ℕ} {l w : List ℕ} (k : Marked b l w) (x : ℕ) (h : x < 128) where
+module _ {b : ℕ} {l w : List ℕ} (k : RegionsMarked b l w) (x : ℕ) (h : x < 128) where
   pub marked-not : getD w (b + x) 0 ≡ 0 → within x l ≡ false
   marked-not e = go (within x l) (sym (k .mark x h) ∙ e)
     where
@@ -106,20 +107,20 @@ drop-one {A} l i d h = drop-cons l i d h ∙ ap (λ (k : ℕ). getD l i d ∷ dr
 
 module _ {A : Type 0} (r : ℕ) where
   -- no line
-  none-find : (i : ℕ) (l : List (ℕ × A)) → firstLine r i l ≡ 0 → find ℕ-discrete r l ≡ none
+  none-find : (i : ℕ) (l : List (ℕ × A)) → lineWord r i l ≡ 0 → find ℕ-discrete r l ≡ none
   none-find i [] e = refl
   none-find i (x ∷ l) e = go (ℕ-discrete r (x .0)) e (none-find (suc i) l)
     where
-      go : (d : Dec (r ≡ x .0)) → choose d (suc i) (firstLine r (suc i) l) ≡ 0 → (firstLine r (suc i) l ≡ 0 → find ℕ-discrete r l ≡ none)
+      go : (d : Dec (r ≡ x .0)) → choose d (suc i) (lineWord r (suc i) l) ≡ 0 → (lineWord r (suc i) l ≡ 0 → find ℕ-discrete r l ≡ none)
           → choose d (some (x .1)) (find ℕ-discrete r l) ≡ none
       go (yes q) e k = absurd (omega arith)
       go (no q) e k = k e
 
-  line-within : (i : ℕ) (l : List (ℕ × A)) → within r (keys l) ≡ not (eqb (firstLine r i l) 0)
+  line-within : (i : ℕ) (l : List (ℕ × A)) → within r (keys l) ≡ not (eqb (lineWord r i l) 0)
   line-within i [] = refl
   line-within i (x ∷ l) = go (ℕ-discrete r (x .0)) (line-within (suc i) l)
     where
-      go : (d : Dec (r ≡ x .0)) → within r (keys l) ≡ not (eqb (firstLine r (suc i) l) 0) → choose d true (within r (keys l)) ≡ not (eqb (choose d (suc i) (firstLine r (suc i) l)) 0)
+      go : (d : Dec (r ≡ x .0)) → within r (keys l) ≡ not (eqb (lineWord r (suc i) l) 0) → choose d true (within r (keys l)) ≡ not (eqb (choose d (suc i) (lineWord r (suc i) l)) 0)
       go (yes q) k = sym (ap not (ne-eqb (suc i) 0 (λ e. omega arith)))
       go (no q) k = k
 
@@ -131,11 +132,11 @@ module _ {A : Type 0} (r : ℕ) where
     region : getD l at d .0 ≡ r
     first : find ℕ-discrete r l ≡ some (getD l at d .1)
 
-  line-found : (i c : ℕ) (l : List (ℕ × A)) (d : ℕ × A) → firstLine r i l ≡ suc c → Found i c l d
+  line-found : (i c : ℕ) (l : List (ℕ × A)) (d : ℕ × A) → lineWord r i l ≡ suc c → Found i c l d
   line-found i c [] d e = absurd (omega arith)
   line-found i c (x ∷ l) d e = go (ℕ-discrete r (x .0)) e (line-found (suc i) c l d)
     where
-      go : (q : Dec (r ≡ x .0)) → choose q (suc i) (firstLine r (suc i) l) ≡ suc c → (firstLine r (suc i) l ≡ suc c → Found (suc i) c l d) → Found i c (x ∷ l) d
+      go : (q : Dec (r ≡ x .0)) → choose q (suc i) (lineWord r (suc i) l) ≡ suc c → (lineWord r (suc i) l ≡ suc c → Found (suc i) c l d) → Found i c (x ∷ l) d
       go (yes y) e k = record {
         at = 0;
         is = omega arith;
@@ -172,30 +173,30 @@ module _ {F : Func} {w : List ℕ} (k : Indexed F w) (r : ℕ) (h : r < 128) whe
   line-known = line-within r 0 (F .ctrls) ∙ ap (λ (v : ℕ). not (eqb v 0)) (sym (k .line r h))
 
 -- the table is filled from the last line to the first
-module _ (F : Func) (w : List ℕ) (i : ℕ) (h : i < length (F .ctrls)) (k : LinesFrom F (i + 1) w) (low : ctrlLine F i .0 < 128) where
-  pub lines-more : tablesEnd ≤ length w → LinesFrom F i (set w (linesAt + ctrlLine F i .0) (i + 1))
-  lines-more z r l =
-      split (ℕ-discrete r (ctrlLine F i .0))
+module _ (F : Func) (w : List ℕ) (i : ℕ) (h : i < length (F .ctrls)) (k : LinesFrom F (i + 1) w) (low : ctrlLineOf F i .0 < 128) where
+  pub line-words-more : tablesEnd ≤ length w → LinesFrom F i (set w (linesAt + ctrlLineOf F i .0) (i + 1))
+  line-words-more z r l =
+      split (ℕ-discrete r (ctrlLineOf F i .0))
       (λ e.
-      ap (λ (y : ℕ). getD (set w (linesAt + ctrlLine F i .0) (i + 1)) (linesAt + y) 0) e
-      ∙ getD-set-same w (linesAt + ctrlLine F i .0) (i + 1) 0 (omega arith)
+      ap (λ (y : ℕ). getD (set w (linesAt + ctrlLineOf F i .0) (i + 1)) (linesAt + y) 0) e
+      ∙ getD-set-same w (linesAt + ctrlLineOf F i .0) (i + 1) 0 (omega arith)
       ∙ add-one i
-      ∙ sym (choose-yes (ℕ-discrete r (ctrlLine F i .0)) (suc i) (firstLine r (suc i) (drop (i + 1) (F .ctrls))) e)
-      ∙ ap (firstLine r i) (sym (drop-one (F .ctrls) i noLine h)))
+      ∙ sym (choose-yes (ℕ-discrete r (ctrlLineOf F i .0)) (suc i) (lineWord r (suc i) (drop (i + 1) (F .ctrls))) e)
+      ∙ ap (lineWord r i) (sym (drop-one (F .ctrls) i noLine h)))
       (λ e.
-      getD-set-other w (linesAt + ctrlLine F i .0) (linesAt + r) (i + 1) 0 (λ y. e (omega arith))
+      getD-set-other w (linesAt + ctrlLineOf F i .0) (linesAt + r) (i + 1) 0 (λ y. e (omega arith))
       ∙ k r l
-      ∙ ap (λ (y : ℕ). firstLine r y (drop (i + 1) (F .ctrls))) (add-one i)
-      ∙ sym (choose-no (ℕ-discrete r (ctrlLine F i .0)) (suc i) (firstLine r (suc i) (drop (i + 1) (F .ctrls))) e)
-      ∙ ap (firstLine r i) (sym (drop-one (F .ctrls) i noLine h)))
+      ∙ ap (λ (y : ℕ). lineWord r y (drop (i + 1) (F .ctrls))) (add-one i)
+      ∙ sym (choose-no (ℕ-discrete r (ctrlLineOf F i .0)) (suc i) (lineWord r (suc i) (drop (i + 1) (F .ctrls))) e)
+      ∙ ap (lineWord r i) (sym (drop-one (F .ctrls) i noLine h)))
 
   -- and a region that has a later line has two
-  pub once-more : distinct (keys (drop i (F .ctrls))) ≡ (eqb (getD w (linesAt + ctrlLine F i .0) 0) 0 && distinct (keys (drop (i + 1) (F .ctrls))))
+  pub once-more : distinct (keys (drop i (F .ctrls))) ≡ (eqb (getD w (linesAt + ctrlLineOf F i .0) 0) 0 && distinct (keys (drop (i + 1) (F .ctrls))))
   once-more =
       ap (λ (l : List (ℕ × ControlInst)). distinct (keys l)) (drop-one (F .ctrls) i noLine h)
-      ∙ ap (λ (b : Bool). not b && distinct (keys (drop (i + 1) (F .ctrls)))) (line-within (ctrlLine F i .0) (i + 1) (drop (i + 1) (F .ctrls)))
-      ∙ twice (eqb (firstLine (ctrlLine F i .0) (i + 1) (drop (i + 1) (F .ctrls))) 0)
-      ∙ ap (λ (v : ℕ). eqb v 0 && distinct (keys (drop (i + 1) (F .ctrls)))) (sym (k (ctrlLine F i .0) low))
+      ∙ ap (λ (b : Bool). not b && distinct (keys (drop (i + 1) (F .ctrls)))) (line-within (ctrlLineOf F i .0) (i + 1) (drop (i + 1) (F .ctrls)))
+      ∙ twice (eqb (lineWord (ctrlLineOf F i .0) (i + 1) (drop (i + 1) (F .ctrls))) 0)
+      ∙ ap (λ (v : ℕ). eqb v 0 && distinct (keys (drop (i + 1) (F .ctrls)))) (sym (k (ctrlLineOf F i .0) low))
     where
       twice : (b : Bool) → (not (not b) && distinct (keys (drop (i + 1) (F .ctrls)))) ≡ (b && distinct (keys (drop (i + 1) (F .ctrls))))
       twice true = refl

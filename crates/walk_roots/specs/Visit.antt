@@ -19,16 +19,17 @@ use Rattle.lifting.specs.Order.{Seen, targetsOf, visit}
 use Rattle.func.specs.Decode.{funcOf}
 use Rattle.func.specs.Tables.{Tables}
 use Rattle.work.specs.Layout.{rootsEnd, linesAt, marksAt, tablesEnd}
-use Rattle.work.specs.Aside.{split, Aside}
-use Rattle.walk_roots.specs.Tables.{RegionsNamed, Indexed, Marked}
+use Rattle.general_laws.specs.Tests.{split}
+use Rattle.work.specs.Aside.{Aside}
+use Rattle.walk_roots.specs.Tables.{RegionsNamed, Indexed, RegionsMarked}
 
 -- the targets of a root
 abbrev pub ways : Func → ℕ → List ℕ
 ways F r = targetsOf (ctrlOf F r)
 
 -- the last n words of the table of roots
-abbrev pub listed : List ℕ → ℕ → List ℕ
-listed w n = tabulate (λ i. getD w i 0) (rootsEnd - n) n
+abbrev pub lastRoots : List ℕ → ℕ → List ℕ
+lastRoots w n = tabulate (λ i. getD w i 0) (rootsEnd - n) n
 
 -- how many of the first n regions have no mark
 unfoldable pub unseen : List ℕ → ℕ → ℕ
@@ -37,8 +38,8 @@ unseen w (suc n) = cond (eqb (getD w (marksAt + n) 0) 0) 1 0 + unseen w n
 
 -- the walk has seen and done what the words say
 pub record WalkStands (w : List ℕ) (n : ℕ) (s : Seen) : Type 0 where
-  pub marks : Marked marksAt (s .seen) w
-  pub order : listed w n ≡ s .order
+  pub marks : RegionsMarked marksAt (s .seen) w
+  pub order : lastRoots w n ≡ s .order
 
 -- each of the n words before `rootsEnd` names a region
 pub record RootsLow (F : Func) (w : List ℕ) (n : ℕ) : Type 0 where
@@ -132,17 +133,17 @@ tab-same f g a (suc n) h =
     ∙ ap (λ (l : List ℕ). g a ∷ l) (tab-same f g (suc a) n (λ i l b. h i (omega arith) (omega arith)))
 
 module _ (w u : List ℕ) (n : ℕ) (h : n ≤ rootsEnd) (same : (x : ℕ) → rootsEnd - n ≤ x → x < rootsEnd → getD u x 0 ≡ getD w x 0) where
-  pub listed-same : listed u n ≡ listed w n
+  pub listed-same : lastRoots u n ≡ lastRoots w n
   listed-same = tab-same (λ i. getD u i 0) (λ i. getD w i 0) (rootsEnd - n) n (λ i l b. same i l (omega arith))
 
 -- one more
-pub listed-more : (w : List ℕ) (n r : ℕ) → n < rootsEnd → rootsEnd - 1 - n < length w → listed (set w (rootsEnd - 1 - n) r) (n + 1) ≡ r ∷ listed w n
+pub listed-more : (w : List ℕ) (n r : ℕ) → n < rootsEnd → rootsEnd - 1 - n < length w → lastRoots (set w (rootsEnd - 1 - n) r) (n + 1) ≡ r ∷ lastRoots w n
 listed-more w n r h z =
     let u = set w (rootsEnd - 1 - n) r in
     let one : n + 1 ≡ suc n = omega arith in
     let a : rootsEnd - suc n ≡ rootsEnd - 1 - n = omega arith in
     let b : suc (rootsEnd - 1 - n) ≡ rootsEnd - n = omega arith in
-    ap (λ (y : ℕ). listed u y) one
+    ap (λ (y : ℕ). lastRoots u y) one
     ∙ ap (λ (y : ℕ). tabulate (λ i. getD u i 0) y (suc n)) a
     ∙ ap (λ (y : ℕ). y ∷ tabulate (λ i. getD u i 0) (suc (rootsEnd - 1 - n)) n) (getD-set-same w (rootsEnd - 1 - n) r 0 z)
     ∙ ap (λ (y : ℕ). r ∷ tabulate (λ i. getD u i 0) y n) b

@@ -23,7 +23,7 @@ ghost use Rattle.func.specs.Tables.{Tables};
 ghost use Rattle.func.specs.Search.{CtrlIs};
 ghost use Rattle.work.specs.Layout.{linesAt, childrenAt, marksAt, tablesEnd};
 ghost use Rattle.work.specs.Aside.{Aside};
-ghost use Rattle.walk_roots.specs.Tables.{RegionsNamed, TablesBlank, Indexed, Marked};
+ghost use Rattle.walk_roots.specs.Tables.{RegionsNamed, TablesBlank, Indexed, RegionsMarked};
 
 // Line c is region r's: whether no later line is.
 fn put_line(work: &mut [u32], r: usize, c: usize) -> bool
@@ -66,7 +66,7 @@ pub fn index(func: &[u32], work: &mut [u32]) -> bool
     requires { ⌜ tablesEnd ≤ length (now work) ⌝ }
     ensures { λ x. ⌜ x ≡ distinct (keys (funcOf (now (func .entry)) .ctrls)) ⌝ }
     ensures { λ _. ⌜ Indexed (funcOf (now (func .entry))) (now (work .exit)) ⌝ }
-    ensures { λ _. ⌜ Marked childrenAt [] (now (work .exit)) × Marked marksAt [] (now (work .exit)) ⌝ }
+    ensures { λ _. ⌜ RegionsMarked childrenAt [] (now (work .exit)) × RegionsMarked marksAt [] (now (work .exit)) ⌝ }
     ensures { λ _. ⌜ Aside 0 tablesEnd (now (work .entry)) (now (work .exit)) ⌝ }
     ensures { λ _. ⌜ length (now (work .exit)) ≡ length (now (work .entry)) ⌝ }
 {
@@ -92,7 +92,7 @@ fn mark_node(func: &[u32], n: usize, work: &mut [u32])
     requires { ⌜ Tables (now func) ⌝ }
     requires { ⌜ RegionsNamed (funcOf (now func)) ⌝ }
     requires { ⌜ (n < length (funcOf (now func) .nodes)) × (tablesEnd ≤ length (now work)) ⌝ }
-    ensures { λ _. ⌜ ((l : List ℕ) → Marked childrenAt l (now (work .entry)) → Marked childrenAt (childrenOf (nodeOf (funcOf (now (func .entry))) n) ++ l) (now (work .exit))) ⌝ }
+    ensures { λ _. ⌜ ((l : List ℕ) → RegionsMarked childrenAt l (now (work .entry)) → RegionsMarked childrenAt (childrenOf (nodeOf (funcOf (now (func .entry))) n) ++ l) (now (work .exit))) ⌝ }
     ensures { λ _. ⌜ Aside childrenAt marksAt (now (work .entry)) (now (work .exit)) ⌝ }
     ensures { λ _. ⌜ length (now (work .exit)) ≡ length (now (work .entry)) ⌝ }
 {
@@ -108,8 +108,8 @@ fn mark_node(func: &[u32], n: usize, work: &mut [u32])
 pub fn mark_nodes(func: &[u32], work: &mut [u32])
     requires { ⌜ Tables (now func) ⌝ }
     requires { ⌜ RegionsNamed (funcOf (now func)) ⌝ }
-    requires { ⌜ (tablesEnd ≤ length (now work)) × Marked childrenAt [] (now work) ⌝ }
-    ensures { λ _. ⌜ Marked childrenAt (childList (funcOf (now (func .entry)))) (now (work .exit)) ⌝ }
+    requires { ⌜ (tablesEnd ≤ length (now work)) × RegionsMarked childrenAt [] (now work) ⌝ }
+    ensures { λ _. ⌜ RegionsMarked childrenAt (childList (funcOf (now (func .entry)))) (now (work .exit)) ⌝ }
     ensures { λ _. ⌜ Aside childrenAt marksAt (now (work .entry)) (now (work .exit)) ⌝ }
     ensures { λ _. ⌜ length (now (work .exit)) ≡ length (now (work .entry)) ⌝ }
 {

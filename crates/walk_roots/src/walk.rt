@@ -16,8 +16,8 @@ ghost use Rattle.func.specs.Decode.{funcOf};
 ghost use Rattle.func.specs.Tables.{Tables};
 ghost use Rattle.work.specs.Layout.{rootsEnd, marksAt, tablesEnd, workNeed};
 ghost use Rattle.work.specs.Aside.{Aside};
-ghost use Rattle.walk_roots.specs.Tables.{RegionsNamed, Indexed, Marked};
-ghost use Rattle.walk_roots.specs.Visit.{ways, listed, RootsLow, WalkReady, RootsVisited};
+ghost use Rattle.walk_roots.specs.Tables.{RegionsNamed, Indexed, RegionsMarked};
+ghost use Rattle.walk_roots.specs.Visit.{ways, lastRoots, RootsLow, WalkReady, RootsVisited};
 
 // How many targets root r has.
 fn way_count(func: &[u32], work: &[u32], r: usize) -> usize
@@ -99,8 +99,8 @@ pub fn order(func: &[u32], work: &mut [u32]) -> usize
     requires { ⌜ RegionsNamed (funcOf (now func)) ⌝ }
     requires { ⌜ 0 < length (funcOf (now func) .regions) ⌝ }
     requires { ⌜ Indexed (funcOf (now func)) (now work) ⌝ }
-    requires { ⌜ Marked marksAt [] (now work) × (tablesEnd ≤ length (now work)) ⌝ }
-    ensures { λ n. ⌜ listed (now (work .exit)) n ≡ roots (funcOf (now (func .entry))) ⌝ }
+    requires { ⌜ RegionsMarked marksAt [] (now work) × (tablesEnd ≤ length (now work)) ⌝ }
+    ensures { λ n. ⌜ lastRoots (now (work .exit)) n ≡ roots (funcOf (now (func .entry))) ⌝ }
     ensures { λ n. ⌜ n ≤ length (funcOf (now (func .entry)) .regions) ⌝ }
     ensures { λ n. ⌜ RootsLow (funcOf (now (func .entry))) (now (work .exit)) n ⌝ }
     ensures { λ _. ⌜ Indexed (funcOf (now (func .entry))) (now (work .exit)) ⌝ }
@@ -117,7 +117,7 @@ pub fn reached(func: &[u32], work: &mut [u32]) -> usize
     requires { ⌜ RegionsNamed (funcOf (now func)) ⌝ }
     requires { ⌜ 0 < length (funcOf (now func) .regions) ⌝ }
     requires { ⌜ workNeed ≤ length (now work) ⌝ }
-    ensures { λ n. ⌜ listed (now (work .exit)) n ≡ roots (funcOf (now (func .entry))) ⌝ }
+    ensures { λ n. ⌜ lastRoots (now (work .exit)) n ≡ roots (funcOf (now (func .entry))) ⌝ }
     ensures { λ n. ⌜ n ≤ length (funcOf (now (func .entry)) .regions) ⌝ }
     ensures { λ n. ⌜ RootsLow (funcOf (now (func .entry))) (now (work .exit)) n ⌝ }
     ensures { λ _. ⌜ Indexed (funcOf (now (func .entry))) (now (work .exit)) ⌝ }

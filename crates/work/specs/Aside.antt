@@ -2,13 +2,15 @@
 --     aside-none, aside-set, aside-more     nothing written, a word of the run written, one call after the other
 --     aside-wider                           a longer run
 --     cleared-none, cleared-more            a run that is cleared word by word
+--     cleared-all                           where that run is the whole slice
 use mathlib.Core.Path.{_≡_, refl, ap, subst, _∙_}
-use mathlib.Core.List.{List}
-use Prim.Native.Nat.{ℕ, _+_, _≤_, _<_}
+use mathlib.Core.List.{List, [], _∷_}
+use Prim.Native.Nat.{ℕ, suc, _+_, _≤_, _<_}
 use native.Mathlib.Decide.{ℕ-discrete}
 use native.Mathlib.Omega.{arith}
-use lib.ListN.{getD, length, set}
+use lib.ListN.{getD, length, replicate, set}
 use lib.Seq.{getD-set-other, getD-set-same}
+use Rattle.general_laws.specs.Tests.{split}
 
 -- the words of u before word a and from word b on are those of w
 pub record Aside (a b : ℕ) (w u : List ℕ) : Type 0 where
@@ -30,11 +32,6 @@ aside-more k m = record { before = λ x h. m .before x h ∙ k .before x h; afte
 pub aside-wider : {a b c d : ℕ} {w u : List ℕ} → Aside a b w u → c ≤ a → b ≤ d → Aside c d w u
 aside-wider k l h = record { before = λ x z. k .before x (omega arith); after = λ x z. k .after x (omega arith) }
 
--- what is one thing or the other
-abbrev pub split : {P A : Type 0} → Dec P → (P → A) → (¬ P → A) → A
-split (yes p) f g = f p
-split (no n) f g = g n
-
 -- the words from a up to b are 0, and the others stay
 pub record Cleared (a b : ℕ) (w u : List ℕ) : Type 0 where
   pub blank : (x : ℕ) → a ≤ x → x < b → getD u x 0 ≡ 0
@@ -53,3 +50,11 @@ cleared-more {i = i} {u = u} k h l = record {
 
 pub cleared-to : {a i b : ℕ} {w u : List ℕ} → Cleared a i w u → i ≡ b → Cleared a b w u
 cleared-to {a} {w = w} {u} k e = subst (λ (n : ℕ). Cleared a n w u) e k
+
+-- words that are 0, one by one
+zeros : (u : List ℕ) → ((x : ℕ) → x < length u → getD u x 0 ≡ 0) → u ≡ replicate (length u) 0
+zeros [] h = refl
+zeros (a ∷ u) h = λ i. h 0 (omega arith) i ∷ zeros u (λ x l. h (suc x) (omega arith)) i
+
+pub cleared-all : {w u : List ℕ} → Cleared 0 (length w) w u → length u ≡ length w → u ≡ replicate (length w) 0
+cleared-all {w} {u} k e = zeros u (λ x h. k .blank x (omega arith) (omega arith)) ∙ ap (λ (n : ℕ). replicate n 0) e

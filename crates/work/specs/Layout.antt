@@ -13,6 +13,9 @@ use lib.Dec.{leb, ltb}
 abbrev pub enteredAt : ℕ
 enteredAt = 0
 
+abbrev pub enteredEnd : ℕ
+enteredEnd = 128
+
 -- refusal 5: marks of nodes, ops or regions, by number; then the parents of regions, with the stamps of climbs behind them
 abbrev pub seenAt : ℕ
 seenAt = 0

@@ -2,8 +2,12 @@
 // read and cleared. No crate above names a word by its number.
 ghost use mathlib.Core.Path.{_≡_};
 ghost use Prim.Native.Nat.{_+_, _≤_, _<_};
-ghost use lib.ListN.{length, getD};
+ghost use lib.ListN.{length, getD, replicate};
 ghost use Rattle.work.specs.Aside.{Cleared};
+
+pub const ENTERED: usize = 0;
+
+pub const ENTERED_END: usize = 128;
 
 pub const STAMPS: usize = 128;
 
@@ -31,6 +35,8 @@ pub const STATUSES: usize = 2048;
 
 pub const ABSORBS: usize = 2560;
 
+pub const IDS: usize = 3072;
+
 pub const INPUT_IDS: usize = 3072;
 
 pub const OUTPUT_IDS: usize = 3200;
@@ -38,6 +44,8 @@ pub const OUTPUT_IDS: usize = 3200;
 pub const RESULT_IDS: usize = 3328;
 
 pub const LABEL_IDS: usize = 3840;
+
+pub const IDS_END: usize = 4352;
 
 pub const HEADS: usize = 4352;
 
@@ -72,4 +80,12 @@ pub fn clear(work: &mut [u32], from: usize, to: usize)
         work[i] = 0;
         i += 1;
     }
+}
+
+// Every word of a lent slice is 0.
+pub fn clear_all(words: &mut [u32])
+    ensures { λ _. ⌜ now (words .exit) ≡ replicate (length (now (words .entry))) 0 ⌝ }
+{
+    let n = words.len();
+    clear(words, 0, n);
 }

@@ -7,17 +7,16 @@ use Rattle.blocks.proofs.blocks.Statement.{statement}
 use Rattle.blocks.proofs.blocks.Tie as tie
 
 lay-out-requires : tie.Need-lay-out-requires
-lay-out-requires c κs = let p = c .before .before .before .pre in (p .0 .tables, (walkable-stands (p .0) (p .1 .0), p .1 .1 .0))
+lay-out-requires c κs = let p = c .before .before .before .pre in (p .0 .tables, (walkable-stands (p .0) (p .1 .0), p .1 .1))
 
 returns : tie.Need-returns
 returns c =
-    let p = c .before .before .before .before .before .before .before .before .before .before .before .before .before .before .pre in
     let l = c .before .before .before .before .before .before .before .before .before .before .lay-out .ensures in
     let a = c .before .before .before .before .before .before .clear .ensures in
     let b = c .before .before .clear2 .ensures in
     let words = l .1 .1 .1 .0 in (
-      visited-still (p .1 .1 .1) (l .0) words (a .0) (b .0) (b .1 ∙ a .1),
-      (block-words (p .1 .1 .1) (l .0) words (a .0) (b .0), b .1 ∙ a .1 ∙ l .1 .1 .1 .1),
+      visited-still (l .0) words (a .0) (b .0) (b .1 ∙ a .1),
+      (block-words (l .0) words (a .0) (b .0), b .1 ∙ a .1 ∙ l .1 .1 .1 .1),
     )
 
 pub blocks-spec : {M : Type 1} → statement M

@@ -9,13 +9,13 @@ use borrow.Author.Tests.{not-true, not-false}
 use Rattle.general_laws.specs.Every.{every-keys}
 use Rattle.general_laws.specs.Lists.{every, within, keys}
 use Rattle.func.specs.Decode.{funcOf}
-use Rattle.func.specs.Tables.{ctrlLine}
+use Rattle.func.specs.Tables.{ctrlLineOf}
 use Rattle.check_control.specs.Loops.{every-next, every-stop, every-done}
 use Rattle.check_control.proofs.entries_fit.Statement.{statement}
 use Rattle.check_control.proofs.entries_fit.Tie as tie
 
 abbrev Inv-loop : tie.InvT-loop
-Inv-loop func c k i₀ i = every (λ r. within r (ctrlLine (funcOf func) c .1 .to)) (keys (ctrlLine (funcOf func) c .1 .vals)) ≡ every (λ x. within (x .0) (ctrlLine (funcOf func) c .1 .to)) (drop i (ctrlLine (funcOf func) c .1 .vals))
+Inv-loop func c k i₀ i = every (λ r. within r (ctrlLineOf (funcOf func) c .1 .to)) (keys (ctrlLineOf (funcOf func) c .1 .vals)) ≡ every (λ x. within (x .0) (ctrlLineOf (funcOf func) c .1 .to)) (drop i (ctrlLineOf (funcOf func) c .1 .vals))
 
 abbrev μ-loop : tie.MeasureT-loop
 μ-loop func c k i₀ i = k - i
@@ -24,19 +24,19 @@ returns : tie.Need-returns Inv-loop μ-loop
 returns c =
     let l = c .before .before .before .before in
     let s = l .before .before .before in
-    sym (l .loop .inv ∙ every-stop (λ x. within (x .0) (ctrlLine (funcOf (s .args .func .now)) (s .args .c) .1 .to)) (ctrlLine (funcOf (s .args .func .now)) (s .args .c) .1 .vals) (l .loop .i) (0, []) (omega (arith, l .before .entry-count .ensures)) (ap (λ r. within r (ctrlLine (funcOf (s .args .func .now)) (s .args .c) .1 .to)) (sym (c .before .before .entry-region .ensures)) ∙ sym (c .before .is-target .ensures) ∙ not-true (c .before .is-target .result) (c .if1 .taken)))
+    sym (l .loop .inv ∙ every-stop (λ x. within (x .0) (ctrlLineOf (funcOf (s .args .func .now)) (s .args .c) .1 .to)) (ctrlLineOf (funcOf (s .args .func .now)) (s .args .c) .1 .vals) (l .loop .i) (0, []) (omega (arith, l .before .entry-count .ensures)) (ap (λ r. within r (ctrlLineOf (funcOf (s .args .func .now)) (s .args .c) .1 .to)) (sym (c .before .before .entry-region .ensures)) ∙ sym (c .before .is-target .ensures) ∙ not-true (c .before .is-target .result) (c .if1 .taken)))
 
 loop-again : tie.Need-loop-again Inv-loop μ-loop
 loop-again c =
     let l = c .before .before .before .before in
     let s = l .before .before .before in
-    l .loop .inv ∙ every-next (λ x. within (x .0) (ctrlLine (funcOf (s .args .func .now)) (s .args .c) .1 .to)) (ctrlLine (funcOf (s .args .func .now)) (s .args .c) .1 .vals) (l .loop .i) (0, []) (omega (arith, l .before .entry-count .ensures)) (ap (λ r. within r (ctrlLine (funcOf (s .args .func .now)) (s .args .c) .1 .to)) (sym (c .before .before .entry-region .ensures)) ∙ sym (c .before .is-target .ensures) ∙ not-false (c .before .is-target .result) (c .if1 .left))
+    l .loop .inv ∙ every-next (λ x. within (x .0) (ctrlLineOf (funcOf (s .args .func .now)) (s .args .c) .1 .to)) (ctrlLineOf (funcOf (s .args .func .now)) (s .args .c) .1 .vals) (l .loop .i) (0, []) (omega (arith, l .before .entry-count .ensures)) (ap (λ r. within r (ctrlLineOf (funcOf (s .args .func .now)) (s .args .c) .1 .to)) (sym (c .before .before .entry-region .ensures)) ∙ sym (c .before .is-target .ensures) ∙ not-false (c .before .is-target .result) (c .if1 .left))
 
 returns-2 : tie.Need-returns-2 Inv-loop μ-loop
 returns-2 c =
     let l = c .before in
     let s = l .before .before .before in
-    sym (l .loop .inv ∙ every-done (λ x. within (x .0) (ctrlLine (funcOf (s .args .func .now)) (s .args .c) .1 .to)) (ctrlLine (funcOf (s .args .func .now)) (s .args .c) .1 .vals) (l .loop .i) (omega (arith, l .before .entry-count .ensures)))
+    sym (l .loop .inv ∙ every-done (λ x. within (x .0) (ctrlLineOf (funcOf (s .args .func .now)) (s .args .c) .1 .to)) (ctrlLineOf (funcOf (s .args .func .now)) (s .args .c) .1 .vals) (l .loop .i) (omega (arith, l .before .entry-count .ensures)))
 
 pub entries-fit-spec : {M : Type 1} → statement M
 entries-fit-spec =
@@ -45,7 +45,7 @@ entries-fit-spec =
     Inv-loop
     μ-loop
     (λ c κs. search needs)
-    (λ c. let s = c .before .before in every-keys (λ r. within r (ctrlLine (funcOf (s .args .func .now)) (s .args .c) .1 .to)) (ctrlLine (funcOf (s .args .func .now)) (s .args .c) .1 .vals))
+    (λ c. let s = c .before .before in every-keys (λ r. within r (ctrlLineOf (funcOf (s .args .func .now)) (s .args .c) .1 .to)) (ctrlLineOf (funcOf (s .args .func .now)) (s .args .c) .1 .vals))
     (λ c κs. let s = c .before .before .before .before in (s .pre .0, (s .pre .1, (omega (arith, c .before .before .entry-count .ensures)))))
     (λ c κs. let s = c .before .before .before .before .before in (s .pre .0, s .pre .1))
     returns

@@ -9,13 +9,13 @@ use borrow.Author.Tests.{not-true, not-false}
 use Rattle.general_laws.specs.Lists.{every, within, keys, tabulate}
 use Rattle.func.specs.Decode.{funcOf}
 use Rattle.work.specs.Layout.{rootsEnd}
-use Rattle.walk_roots.specs.Visit.{listed}
+use Rattle.walk_roots.specs.Visit.{lastRoots}
 use Rattle.check_control.specs.Loops.{tab-first, tab-next, tab-stop, tab-done}
 use Rattle.check_control.proofs.have_ctrls.Statement.{statement}
 use Rattle.check_control.proofs.have_ctrls.Tie as tie
 
 abbrev Inv-loop : tie.InvT-loop
-Inv-loop func work n a i₀ i = every (λ r. within r (keys (funcOf func .ctrls))) (listed work n) ≡ every (λ r. within r (keys (funcOf func .ctrls))) (tabulate (λ j. getD work j 0) (a + i) (n - i))
+Inv-loop func work n a i₀ i = every (λ r. within r (keys (funcOf func .ctrls))) (lastRoots work n) ≡ every (λ r. within r (keys (funcOf func .ctrls))) (tabulate (λ j. getD work j 0) (a + i) (n - i))
 
 abbrev μ-loop : tie.MeasureT-loop
 μ-loop func work n a i₀ i = n - i

@@ -4,7 +4,7 @@ use Prim.Native.Nat.{_-_}
 use native.Mathlib.Omega.{arith}
 use borrow.Author.Tests.{not-true, not-false}
 use Rattle.func.specs.Decode.{funcOf}
-use Rattle.func.specs.Tables.{ctrlLine}
+use Rattle.func.specs.Tables.{ctrlLineOf}
 use Rattle.lifting.specs.Control.{isRoot}
 use Rattle.check_control.proofs.Laws.{line-child, line-is}
 use borrow.Author.Needs.{needs}
@@ -19,10 +19,10 @@ is-root-requires c κs =
     (m .0, (omega (arith, c .ctrl-region .ensures, h .line (s .args .c) (s .pre .1 .0), h .few), m .1))
 
 returns : tie.Need-returns
-returns c = let a = c .before .before .before .before .before .args in line-child (funcOf (a .func .now)) (ctrlLine (funcOf (a .func .now)) (a .c)) (ap (isRoot (funcOf (a .func .now))) (sym (c .before .before .ctrl-region .ensures)) ∙ (sym (c .before .is-root .ensures) ∙ not-true (c .before .is-root .result) (c .if1 .taken)))
+returns c = let a = c .before .before .before .before .before .args in line-child (funcOf (a .func .now)) (ctrlLineOf (funcOf (a .func .now)) (a .c)) (ap (isRoot (funcOf (a .func .now))) (sym (c .before .before .ctrl-region .ensures)) ∙ (sym (c .before .is-root .ensures) ∙ not-true (c .before .is-root .result) (c .if1 .taken)))
 
 returns-2 : tie.Need-returns-2
-returns-2 c = let a = c .before .before .before .before .before .before .args in line-is (funcOf (a .func .now)) (ctrlLine (funcOf (a .func .now)) (a .c)) (ap (isRoot (funcOf (a .func .now))) (sym (c .before .before .before .ctrl-region .ensures)) ∙ (sym (c .before .before .is-root .ensures) ∙ not-false (c .before .before .is-root .result) (c .before .if1 .left))) (c .ctrl-fits .ensures)
+returns-2 c = let a = c .before .before .before .before .before .before .args in line-is (funcOf (a .func .now)) (ctrlLineOf (funcOf (a .func .now)) (a .c)) (ap (isRoot (funcOf (a .func .now))) (sym (c .before .before .before .ctrl-region .ensures)) ∙ (sym (c .before .before .is-root .ensures) ∙ not-false (c .before .before .is-root .result) (c .before .if1 .left))) (c .ctrl-fits .ensures)
 
 pub line-fits-spec : {M : Type 1} → statement M
 line-fits-spec =

@@ -8,13 +8,13 @@ use borrow.Author.Needs.{needs}
 use borrow.Author.Tests.{not-true, not-false}
 use Rattle.general_laws.specs.Lists.{every}
 use Rattle.func.specs.Decode.{funcOf}
-use Rattle.func.specs.Tables.{ctrlLine}
+use Rattle.func.specs.Tables.{ctrlLineOf}
 use Rattle.check_control.specs.Loops.{every-next, every-stop, every-done, targetFits}
 use Rattle.check_control.proofs.targets_fit.Statement.{statement}
 use Rattle.check_control.proofs.targets_fit.Tie as tie
 
 abbrev Inv-loop : tie.InvT-loop
-Inv-loop func work c k i₀ i = every (targetFits (funcOf func)) (ctrlLine (funcOf func) c .1 .to) ≡ every (targetFits (funcOf func)) (drop i (ctrlLine (funcOf func) c .1 .to))
+Inv-loop func work c k i₀ i = every (targetFits (funcOf func)) (ctrlLineOf (funcOf func) c .1 .to) ≡ every (targetFits (funcOf func)) (drop i (ctrlLineOf (funcOf func) c .1 .to))
 
 abbrev μ-loop : tie.MeasureT-loop
 μ-loop func work c k i₀ i = k - i
@@ -31,19 +31,19 @@ returns : tie.Need-returns Inv-loop μ-loop
 returns c =
     let l = c .before .before .before .before in
     let s = l .before .before .before .before in
-    sym (l .loop .inv ∙ every-stop (targetFits (funcOf (s .args .func .now))) (ctrlLine (funcOf (s .args .func .now)) (s .args .c) .1 .to) (l .loop .i) 0 (omega (arith, l .before .target-count .ensures)) (ap (targetFits (funcOf (s .args .func .now))) (sym (c .before .before .target .ensures)) ∙ sym (c .before .target-fits .ensures) ∙ not-true (c .before .target-fits .result) (c .if1 .taken)))
+    sym (l .loop .inv ∙ every-stop (targetFits (funcOf (s .args .func .now))) (ctrlLineOf (funcOf (s .args .func .now)) (s .args .c) .1 .to) (l .loop .i) 0 (omega (arith, l .before .target-count .ensures)) (ap (targetFits (funcOf (s .args .func .now))) (sym (c .before .before .target .ensures)) ∙ sym (c .before .target-fits .ensures) ∙ not-true (c .before .target-fits .result) (c .if1 .taken)))
 
 loop-again : tie.Need-loop-again Inv-loop μ-loop
 loop-again c =
     let l = c .before .before .before .before in
     let s = l .before .before .before .before in
-    l .loop .inv ∙ every-next (targetFits (funcOf (s .args .func .now))) (ctrlLine (funcOf (s .args .func .now)) (s .args .c) .1 .to) (l .loop .i) 0 (omega (arith, l .before .target-count .ensures)) (ap (targetFits (funcOf (s .args .func .now))) (sym (c .before .before .target .ensures)) ∙ sym (c .before .target-fits .ensures) ∙ not-false (c .before .target-fits .result) (c .if1 .left))
+    l .loop .inv ∙ every-next (targetFits (funcOf (s .args .func .now))) (ctrlLineOf (funcOf (s .args .func .now)) (s .args .c) .1 .to) (l .loop .i) 0 (omega (arith, l .before .target-count .ensures)) (ap (targetFits (funcOf (s .args .func .now))) (sym (c .before .before .target .ensures)) ∙ sym (c .before .target-fits .ensures) ∙ not-false (c .before .target-fits .result) (c .if1 .left))
 
 returns-2 : tie.Need-returns-2 Inv-loop μ-loop
 returns-2 c =
     let l = c .before in
     let s = l .before .before .before .before in
-    sym (l .loop .inv ∙ every-done (targetFits (funcOf (s .args .func .now))) (ctrlLine (funcOf (s .args .func .now)) (s .args .c) .1 .to) (l .loop .i) (omega (arith, l .before .target-count .ensures)))
+    sym (l .loop .inv ∙ every-done (targetFits (funcOf (s .args .func .now))) (ctrlLineOf (funcOf (s .args .func .now)) (s .args .c) .1 .to) (l .loop .i) (omega (arith, l .before .target-count .ensures)))
 
 pub targets-fit-spec : {M : Type 1} → statement M
 targets-fit-spec =

@@ -4,13 +4,13 @@ use Prim.Native.Nat.{_-_}
 use native.Mathlib.Omega.{arith}
 use borrow.Author.Needs.{needs}
 use borrow.Author.Tests.{not-true, not-false}
-use Rattle.check_counts.specs.Test.{childrenIn, casesTest}
+use Rattle.check_counts.specs.Test.{childCountIn, casesTest}
 use Rattle.check_counts.proofs.Laws.{node-in, left, left-stop, left-next, left-done, caseOf, cases-first}
 use Rattle.check_counts.proofs.cases_fit.Statement.{statement}
 use Rattle.check_counts.proofs.cases_fit.Tie as tie
 
 abbrev Inv-loop : tie.InvT-loop
-Inv-loop func n m i₀ i = (m ≡ childrenIn func n) × (casesTest func n ≡ left (caseOf func n) m i)
+Inv-loop func n m i₀ i = (m ≡ childCountIn func n) × (casesTest func n ≡ left (caseOf func n) m i)
 
 abbrev μ-loop : tie.MeasureT-loop
 μ-loop func n m i₀ i = m - i

@@ -4,8 +4,8 @@ use mathlib.Core.Path.{ap, _∙_}
 use mathlib.Core.Bool.{Bool, _&&_}
 use borrow.Author.Needs.{needs}
 use Rattle.check_references.specs.Test.{referencesTest}
-use Rattle.check_references.specs.Limits.{ready}
-use Rattle.check_references.proofs.Laws.{joined}
+use Rattle.check_limits.specs.Limits.{ready}
+use Rattle.check_limits.specs.Both.{joined}
 use Rattle.check_references.proofs.references.Statement.{statement}
 use Rattle.check_references.proofs.references.Tie as tie
 

@@ -9,7 +9,7 @@ use borrow.Author.Needs.{needs}
 use borrow.Author.Tests.{not-true, not-false}
 use Rattle.func.specs.Decode.{funcOf}
 use Rattle.func.specs.Kinds.{ctrlKind}
-use Rattle.func.specs.Tables.{ctrlLine}
+use Rattle.func.specs.Tables.{ctrlLineOf}
 use Rattle.check_targets.specs.Lines.{boolTest, bool-two, differs-other, differs-bool}
 use Rattle.check_targets.proofs.line_differs.Statement.{statement}
 use Rattle.check_targets.proofs.line_differs.Tie as tie
@@ -19,19 +19,19 @@ returns c =
     let b = c .before in
     let k = b .before in
     let a = k .before .before .args in
-    let l = ctrlLine (funcOf (a .func .now)) (a .c) .1 in
+    let l = ctrlLineOf (funcOf (a .func .now)) (a .c) .1 in
     differs-other (l .kind) (l .to) (ap boolTest (sym (k .ctrl-kind .ensures)) ∙ sym (b .by-bool .ensures) ∙ not-true (b .by-bool .result) (c .if1 .taken))
 
 -- a `bool` ctrl, which has two targets
-is-bool : (c : tie.Else1) → let a = c .before .before .before .before .args in boolTest (ctrlKind (ctrlLine (funcOf (a .func .now)) (a .c) .1 .kind)) ≡ true
+is-bool : (c : tie.Else1) → let a = c .before .before .before .before .args in boolTest (ctrlKind (ctrlLineOf (funcOf (a .func .now)) (a .c) .1 .kind)) ≡ true
 is-bool c =
     let b = c .before in
     ap boolTest (sym (b .before .ctrl-kind .ensures)) ∙ sym (b .by-bool .ensures) ∙ not-false (b .by-bool .result) (c .if1 .left)
 
-two : (c : tie.Else1) → let a = c .before .before .before .before .args in length (ctrlLine (funcOf (a .func .now)) (a .c) .1 .to) ≡ 2
+two : (c : tie.Else1) → let a = c .before .before .before .before .args in length (ctrlLineOf (funcOf (a .func .now)) (a .c) .1 .to) ≡ 2
 two c =
     let s = c .before .before .before .before in
-    bool-two (ctrlLine (funcOf (s .args .func .now)) (s .args .c)) (is-bool c) (s .pre .1 .1)
+    bool-two (ctrlLineOf (funcOf (s .args .func .now)) (s .args .c)) (is-bool c) (s .pre .1 .1)
 
 target-requires : tie.Need-target-requires
 target-requires c κs = let p = c .before .before .before .before .pre in (p .0, (p .1 .0, omega (arith, two c)))
@@ -44,7 +44,7 @@ returns-2 c =
     let e = c .before .before in
     let s = e .before .before .before .before in
     (λ i. not (eqb (c .before .target .ensures i) (c .target2 .ensures i)))
-    ∙ differs-bool (ctrlLine (funcOf (s .args .func .now)) (s .args .c)) (is-bool e) (s .pre .1 .1)
+    ∙ differs-bool (ctrlLineOf (funcOf (s .args .func .now)) (s .args .c)) (is-bool e) (s .pre .1 .1)
 
 pub line-differs-spec : {M : Type 1} → statement M
 line-differs-spec =

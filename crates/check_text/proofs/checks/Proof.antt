@@ -5,8 +5,9 @@ use mathlib.Core.Bool.{true, _&&_}
 use native.Mathlib.Omega.{arith}
 use borrow.Author.Needs.{needs}
 use borrow.Author.Tests.{not-true, not-false}
-use Rattle.check_references.specs.Test.{limitsTest, referencesTest}
-use Rattle.check_tree.specs.Test.{treeTest}
+use Rattle.check_limits.specs.Limits.{limitsTest}
+use Rattle.check_references.specs.Test.{referencesTest}
+use Rattle.check_marks.specs.Test.{treeTest}
 use Rattle.check_counts.specs.Test.{countsTest}
 use Rattle.lifting.specs.Control.{controlFits}
 use Rattle.func.specs.Decode.{funcOf}

@@ -6,7 +6,7 @@ use native.Mathlib.Omega.{arith}
 use lib.Dec.{lit<}
 use borrow.Author.Tests.{not-true, not-false}
 use Rattle.func.specs.Layout.{nodeRefs, opRefs, nodes, ops}
-use Rattle.check_tree.specs.Test.{onceTest, childTest}
+use Rattle.check_marks.specs.Test.{onceTest, childTest}
 use Rattle.check_tree.proofs.Laws.{tree-1, tree-2, tree-3, tree-4, whole}
 use Rattle.check_tree.proofs.is_tree.Statement.{statement}
 use Rattle.check_tree.proofs.is_tree.Tie as tie

@@ -1,9 +1,9 @@
 -- What `carries` says tells where the values along the edge stand, in an entry, in the outputs of a region or in the defaults, and there element
 -- j is the one that moves (`along`).
 use Rattle.func.specs.Decode.{funcOf}
-use Rattle.func.specs.Tables.{ctrlLine}
-use Rattle.terminators.specs.At.{blockAt}
-use Rattle.emit_lists.specs.Edges.{along, entry-low}
+use Rattle.func.specs.Tables.{ctrlLineOf}
+use Rattle.terminators.specs.At.{visitedBlock}
+use Rattle.emit_lists.specs.Edges.{along, entry-value-low}
 use borrow.Author.Needs.{needs}
 use Rattle.emit_carried.proofs.edge_value.Statement.{statement}
 use Rattle.emit_carried.proofs.edge_value.Tie as tie
@@ -12,16 +12,16 @@ entry-value-requires : tie.Need-entry-value-requires
 entry-value-requires c κs =
     let s = c .before .before .before .before .before .before .before in
     let F = funcOf (s .args .func .now) in
-    let d = blockAt F (s .args .i) .defaults in
+    let d = visitedBlock F (s .args .i) .defaults in
     let a = along F (c .before .before .before .before .term-kind .ensures) (c .before .before .before .carries .ensures) (c .before .from .given .1)
     (s .args .e) d (s .pre .1 .1) in
-    (s .pre .0 .tables, (a .fits, (entry-low (ctrlLine F (c .before .from .given .0 .0) .1 .vals) (s .args .e) (a .below), a .below)))
+    (s .pre .0 .tables, (a .fits, (entry-value-low (ctrlLineOf F (c .before .from .given .0 .0) .1 .vals) (s .args .e) (a .below), a .below)))
 
 region-out-requires : tie.Need-region-out-requires
 region-out-requires c κs =
     let s = c .before .before .before .before .before .before .before in
     let F = funcOf (s .args .func .now) in
-    let d = blockAt F (s .args .i) .defaults in
+    let d = visitedBlock F (s .args .i) .defaults in
     let a = along F (c .before .before .before .before .term-kind .ensures) (c .before .before .before .carries .ensures) (c .before .from2 .given .1)
     (s .args .e) d (s .pre .1 .1) in
     (s .pre .0 .tables, (a .fits, a .below))
@@ -30,7 +30,7 @@ default-value-requires : tie.Need-default-value-requires
 default-value-requires c κs =
     let s = c .before .before .before .before .before .before in
     let F = funcOf (s .args .func .now) in
-    let d = blockAt F (s .args .i) .defaults in
+    let d = visitedBlock F (s .args .i) .defaults in
     let a = along F (c .before .before .before .term-kind .ensures) (c .before .before .carries .ensures) (c .enum-told .given .1)
     (s .args .e) d (s .pre .1 .1) in
     (s .pre .0, (s .pre .1 .0 .0, a .below))
@@ -39,7 +39,7 @@ returns : tie.Need-returns
 returns c =
     let s = c .before .before .before .before .before .before .before .before in
     let F = funcOf (s .args .func .now) in
-    let d = blockAt F (s .args .i) .defaults in
+    let d = visitedBlock F (s .args .i) .defaults in
     let a = along F (c .before .before .before .before .before .term-kind .ensures) (c .before .before .before .before .carries .ensures) (c .before .before .from .given .1)
     (s .args .e) d (s .pre .1 .1) in
     a .value (c .entry-value .ensures)
@@ -48,7 +48,7 @@ returns-2 : tie.Need-returns-2
 returns-2 c =
     let s = c .before .before .before .before .before .before .before .before in
     let F = funcOf (s .args .func .now) in
-    let d = blockAt F (s .args .i) .defaults in
+    let d = visitedBlock F (s .args .i) .defaults in
     let a = along F (c .before .before .before .before .before .term-kind .ensures) (c .before .before .before .before .carries .ensures) (c .before .before .from2 .given .1)
     (s .args .e) d (s .pre .1 .1) in
     a .value (c .region-out .ensures)
@@ -57,7 +57,7 @@ returns-3 : tie.Need-returns-3
 returns-3 c =
     let s = c .before .before .before .before .before .before .before in
     let F = funcOf (s .args .func .now) in
-    let d = blockAt F (s .args .i) .defaults in
+    let d = visitedBlock F (s .args .i) .defaults in
     let a = along F (c .before .before .before .before .term-kind .ensures) (c .before .before .before .carries .ensures) (c .before .enum-told .given .1)
     (s .args .e) d (s .pre .1 .1) in
     a .value (c .default-value .ensures)

@@ -2,7 +2,7 @@
 -- outputs, or none (`decl-here`).
 use mathlib.Core.Path.{refl, sym, ap, _∙_}
 use Rattle.terminators.specs.Kinds.{asPoint}
-use Rattle.emit_lists.specs.Edges.{body-in, decl-here, entry-decl, entry-in, input-decl, input-in, output-in}
+use Rattle.emit_lists.specs.Edges.{body-in, decl-here, entry-decl, entry-region-in, input-decl, input-in, output-in}
 use borrow.Author.Needs.{needs}
 use Rattle.emit_carried.proofs.phi_decl.Statement.{statement}
 use Rattle.emit_carried.proofs.phi_decl.Tie as tie
@@ -11,7 +11,7 @@ region-in-requires : tie.Need-region-in-requires
 region-in-requires c κs =
     let s = c .before .before .before .before .before .before in
     let e = ap asPoint (sym (c .before .p .given .1)) ∙ c .before .before .before .point .ensures in
-    (s .pre .0 .tables, entry-in (s .pre .0) (s .args .i) (s .pre .1 .0) (s .args .j) (s .pre .1 .1) e)
+    (s .pre .0 .tables, entry-region-in (s .pre .0) (s .args .i) (s .pre .1 .0) (s .args .j) (s .pre .1 .1) e)
 
 node-child-requires : tie.Need-node-child-requires
 node-child-requires c κs =

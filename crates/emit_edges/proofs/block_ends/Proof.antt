@@ -1,4 +1,4 @@
--- A position in no block ends none (`ends-none`); any other ends its block unless it is glued to the next one (`ends-some`).
+-- A position in no block ends none (`ends-none`); any other ends its block unless it is absorbing to the next one (`ends-some`).
 use mathlib.Core.Path.{sym, ap, _∙_}
 use Prim.Native.Nat.{ℕ}
 use lib.Dec.{eqb}

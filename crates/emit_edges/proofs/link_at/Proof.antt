@@ -4,8 +4,8 @@ use mathlib.Core.List.{List, []}
 use native.Mathlib.Omega.{arith}
 use lib.ListN.{length}
 use Rattle.func.specs.Decode.{funcOf}
-use Rattle.emit_edges.specs.Ends.{Edge, edgesAt}
-use Rattle.emit_edges.specs.Links.{linkAll}
+use Rattle.emit_edge_ends.specs.Ends.{Edge, positionEdges}
+use Rattle.emit_edge_ends.specs.Links.{linkAll}
 use Rattle.emit_edges.proofs.Linking.{here-count, here-none, here-some}
 use borrow.Author.Needs.{needs}
 use Rattle.emit_edges.proofs.link_at.Statement.{statement}
@@ -43,7 +43,7 @@ unfolding linkAll
 returns-2 c =
     let s = c .before .before .before .before .before in
     let F = funcOf (s .args .func .now) in
-    let e : edgesAt F (s .args .i) ≡ [] = here-none F (s .args .i) (c .before .block-ends .ensures) (c .if1 .left) in
+    let e : positionEdges F (s .args .i) ≡ [] = here-none F (s .args .i) (c .before .block-ends .ensures) (c .if1 .left) in
     (sym (ap (λ (l : List Edge). linkAll l (s .args .e) (s .args .work .now)) e), (omega (arith, ap length e), search needs))
 
 pub link-at-spec : {M : Type 1} → statement M

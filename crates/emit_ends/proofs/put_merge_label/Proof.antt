@@ -9,7 +9,7 @@ use Rattle.lifting.specs.Points.{regionEntry}
 use Rattle.lifting.specs.Absorb.{mergeLabels}
 use Rattle.general_laws.specs.Members.{all-in, in-getD}
 use Rattle.work.specs.Layout.{labelIdsAt}
-use Rattle.walk_points.specs.Numbers.{Small, number-low}
+use Rattle.walk_points.specs.Numbers.{Small, point-low}
 use Rattle.terminators.specs.Kinds.{mergeOf}
 use Rattle.emit_words.specs.Put.{id, put-same}
 use Rattle.emit_insts.specs.Ready.{label-at}
@@ -22,7 +22,7 @@ label-of-requires c κs =
     let p = c .before .before .before .before .before .pre in
     let ps = mergeLabels (mergeOf (a .w)) in
     let s : Small (getD ps (a .k) (regionEntry 0)) = all-in Small ps (p .1 .0 .1) _ (in-getD ps (a .k) (regionEntry 0) (p .1 .1)) in
-    (omega (arith, c .merge .ensures, number-low (getD ps (a .k) (regionEntry 0)) s), omega (arith, p .0 .laid .size))
+    (omega (arith, c .merge .ensures, point-low (getD ps (a .k) (regionEntry 0)) s), omega (arith, p .0 .laid .size))
 
 returns : tie.Need-returns
 returns c =

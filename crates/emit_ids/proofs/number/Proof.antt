@@ -1,49 +1,26 @@
--- The parameters, the phis, the results and the labels get their ids in this order, each from where the one before left off; that is the order of
--- the names (`number-done`), and they are few enough to fit 32 bits.
+-- The tables of ids are cleared first, which leaves the blocks' tables (`laid-kept`), so that a name without an id has 0.
+use mathlib.Core.Path.{_∙_}
+use native.Mathlib.Omega.{arith}
 use borrow.Author.Needs.{needs}
-use Rattle.func.specs.Decode.{funcOf}
-use Rattle.emit_ids.proofs.Numbering.{first-room, gives-first, labels-room, number-done, phis-room, results-room}
+use Rattle.work.specs.Aside.{aside-more}
+use Rattle.blocks.specs.Laid.{laid-kept}
 use Rattle.emit_ids.proofs.number.Statement.{statement}
 use Rattle.emit_ids.proofs.number.Tie as tie
 
-give-requires : tie.Need-give-requires
-give-requires c κs = let p = c .before .before .before .before .pre in first-room (p .0) (p .1 .1) (c .before .param-total .ensures)
+clear-requires : tie.Need-clear-requires
+clear-requires c κs = (omega arith, omega (arith, c .before .before .before .pre .0 .size))
 
-all-ids-requires : tie.Need-all-ids-requires
-all-ids-requires c κs =
-    let s = c .before .before .before .before .before .before .before .before in
-    let g = c .before .before .before .give .ensures in
-    phis-room (s .pre .0) (s .pre .1 .1) (gives-first (funcOf (s .args .func .now)) (c .before .before .before .before .before .param-total .ensures) (g .0) (g .1))
-
-all-ids-requires-2 : tie.Need-all-ids-requires-2
-all-ids-requires-2 c κs =
-    let s = c .before .before .before .before .before .before .before .before .before .before .before .before in
-    let g = c .before .before .before .before .before .before .before .give .ensures in
-    results-room (s .pre .0) (s .pre .1 .1) (gives-first (funcOf (s .args .func .now)) (c .before .before .before .before .before .before .before .before .before .param-total .ensures) (g .0) (g .1)) (c .before .before .before .all-ids .ensures)
-
-all-ids-requires-3 : tie.Need-all-ids-requires-3
-all-ids-requires-3 c κs =
-    let s = c .before .before .before .before .before .before .before .before .before .before .before .before .before .before .before .before in
-    let g = c .before .before .before .before .before .before .before .before .before .before .before .give .ensures in
-    labels-room (s .pre .0) (s .pre .1 .1) (gives-first (funcOf (s .args .func .now)) (c .before .before .before .before .before .before .before .before .before .before .before .before .before .param-total .ensures) (g .0) (g .1)) (c .before .before .before .before .before .before .before .all-ids .ensures)
-    (c .before .before .before .all-ids2 .ensures)
+number-all-requires : tie.Need-number-all-requires
+number-all-requires c κs =
+    let p = c .before .before .before .before .before .before .before .pre in
+    let k = c .before .before .before .clear .ensures in
+    (laid-kept (p .0) (λ x l h. k .0 .aside .before x h) (k .1), (record { word = k .0 .blank }, p .1))
 
 returns : tie.Need-returns
 returns c =
-    let s = c .before .before .before .before .before .before .before .before .before .before .before .before .before .before .before .before .before .before .before in
-    let g = c .before .before .before .before .before .before .before .before .before .before .before .before .before .before .give .ensures in
-    number-done (s .pre .0) (s .pre .1 .1) (gives-first (funcOf (s .args .func .now)) (c .before .before .before .before .before .before .before .before .before .before .before .before .before .before .before .before .param-total .ensures) (g .0) (g .1)) (c .before .before .before .before .before .before .before .before .before .before .all-ids .ensures)
-    (c .before .before .before .before .before .before .all-ids2 .ensures) (c .before .before .all-ids3 .ensures) (s .pre .1 .0)
+    let k = c .before .before .before .before .before .before .clear .ensures in
+    let e = c .before .before .number-all .ensures in
+    (e .0, (e .1 .0, (aside-more (k .0 .aside) (e .1 .1 .0), e .1 .1 .1 ∙ k .1)))
 
 pub number-spec : {M : Type 1} → statement M
-number-spec =
-    tie.close
-    (tie.spec
-    (λ c κs. search needs)
-    (λ c. search needs)
-    give-requires
-    all-ids-requires
-    all-ids-requires-2
-    all-ids-requires-3
-    (λ c. search needs)
-    returns)
+number-spec = tie.close (tie.spec clear-requires number-all-requires (λ c. search needs) returns)

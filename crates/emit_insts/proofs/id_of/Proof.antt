@@ -1,7 +1,7 @@
 -- A value that names something of the text has its id in the tables (`known-stands`), which is what `value_id` asks.
 use native.Mathlib.Omega.{arith}
 use borrow.Author.Needs.{needs}
-use Rattle.emit_ids.specs.Later.{known-stands}
+use Rattle.emit_value_ids.specs.Later.{known-stands}
 use Rattle.emit_insts.proofs.id_of.Statement.{statement}
 use Rattle.emit_insts.proofs.id_of.Tie as tie
 

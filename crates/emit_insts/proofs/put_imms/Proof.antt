@@ -7,14 +7,14 @@ use borrow.Author.Needs.{needs}
 use lib.ListN.{getD, length}
 use Rattle.func.specs.Decode.{funcOf}
 use Rattle.func.specs.Kinds.{immFrom}
-use Rattle.emit_lists.specs.Named.{immsOf}
+use Rattle.emit_lists.specs.Named.{listedImms}
 use Rattle.emit_words.specs.Put.{Loop, loop-end, loop-start, loop-turn, put-length, put-same}
 use Rattle.emit_insts.specs.Parts.{immItems, upTo-gather}
 use Rattle.emit_insts.proofs.put_imms.Statement.{statement}
 use Rattle.emit_insts.proofs.put_imms.Tie as tie
 
 abbrev Inv-loop : tie.InvT-loop
-Inv-loop func out₀ l n d₀ k₀ out d k = Loop (λ j. immItems (getD (immsOf (funcOf func) l) j (immFrom 0 0 0))) (length (immsOf (funcOf func) l)) out₀ d₀ k out d
+Inv-loop func out₀ l n d₀ k₀ out d k = Loop (λ j. immItems (getD (listedImms (funcOf func) l) j (immFrom 0 0 0))) (length (listedImms (funcOf func) l)) out₀ d₀ k out d
 
 abbrev μ-loop : tie.MeasureT-loop
 μ-loop func out₀ l n d₀ k₀ out d k = n - k
@@ -45,7 +45,7 @@ same-length c =
 returns : tie.Need-returns Inv-loop μ-loop
 returns c =
     let a = c .before .before .before .before .before .args in
-    put-same (loop-end (c .before .loop .inv) (omega (arith, c .before .before .imm-count .ensures .0))) (upTo-gather immItems (immsOf (funcOf (a .func .now)) (a .l)) (immFrom 0 0 0))
+    put-same (loop-end (c .before .loop .inv) (omega (arith, c .before .before .imm-count .ensures .0))) (upTo-gather immItems (listedImms (funcOf (a .func .now)) (a .l)) (immFrom 0 0 0))
 
 pub put-imms-spec : {M : Type 1} → statement M
 put-imms-spec =

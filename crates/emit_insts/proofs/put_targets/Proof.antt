@@ -10,10 +10,10 @@ use Rattle.lifting.specs.Points.{CfgPoint, regionEntry}
 use Rattle.func.specs.Decode.{funcOf}
 use Rattle.general_laws.specs.Members.{all-in, in-getD}
 use Rattle.work.specs.Layout.{labelIdsAt}
-use Rattle.walk_points.specs.Numbers.{Small, number-low}
+use Rattle.walk_points.specs.Numbers.{Small, point-low}
 use Rattle.terminators.specs.Kinds.{termOf}
 use Rattle.emit_words.specs.Put.{Loop, id, loop-end, loop-start, loop-turn, put-length, put-same}
-use Rattle.emit_ids.specs.Ids.{labelIn}
+use Rattle.emit_names.specs.Ids.{labelIn}
 use Rattle.emit_insts.specs.Parts.{upTo-gather}
 use Rattle.emit_insts.specs.Ready.{label-at}
 use Rattle.emit_insts.proofs.put_targets.Statement.{statement}
@@ -40,7 +40,7 @@ label-of-requires c κs =
     let p = c .before .before .before .before .before .before .before .before .pre in
     let ps = termOf (funcOf (a .func .now)) (a .w) .targets in
     let s : Small (getD ps (c .before .before .before .loop .k) (regionEntry 0)) = all-in Small ps (p .1 .1) _ (in-getD ps (c .before .before .before .loop .k) (regionEntry 0) (omega (arith, c .before .before .before .before .targets .ensures .0))) in
-    (omega (arith, c .target-at .ensures, number-low (getD ps (c .before .before .before .loop .k) (regionEntry 0)) s), omega (arith, p .0 .laid .size))
+    (omega (arith, c .target-at .ensures, point-low (getD ps (c .before .before .before .loop .k) (regionEntry 0)) s), omega (arith, p .0 .laid .size))
 
 add-k : tie.Need-add-k Inv-loop μ-loop
 add-k c =

@@ -12,7 +12,7 @@ use Rattle.general_laws.specs.Members.{all-in, in-getD}
 use Rattle.lifting_runs.specs.Refers.{Named}
 use Rattle.emit_lists.specs.Named.{valuesOf}
 use Rattle.emit_words.specs.Put.{Loop, id, loop-end, loop-start, loop-turn, put-length, put-same}
-use Rattle.emit_ids.specs.Ids.{idIn}
+use Rattle.emit_names.specs.Ids.{idIn}
 use Rattle.emit_insts.specs.Parts.{upTo-gather}
 use Rattle.emit_insts.proofs.put_values.Statement.{statement}
 use Rattle.emit_insts.proofs.put_values.Tie as tie

@@ -1,4 +1,4 @@
--- A parameter is a front alone (`param-is`), and its id, so far behind the first one as the parameter stands, fits 32 bits since there are at
+-- A parameter is a front alone (`param-items`), and its id, so far behind the first one as the parameter stands, fits 32 bits since there are at
 -- most 64 parameters.
 use mathlib.Core.Path.{refl, _∙_}
 use Prim.Native.Nat.{_-_, _≤_}
@@ -7,8 +7,8 @@ use borrow.Author.Needs.{needs}
 use Rattle.func.specs.Decode.{funcOf}
 use Rattle.emit_words.specs.Put.{id, put-same}
 use Rattle.emit_insts.specs.Parts.{front-same}
-use Rattle.emit_list.specs.Points.{param-is}
-use Rattle.emit_list.specs.Laws.{few-params}
+use Rattle.emit_list.specs.Points.{param-items}
+use Rattle.func.specs.Tables.{few-params}
 use Rattle.emit_list.proofs.put_param.Statement.{statement}
 use Rattle.emit_list.proofs.put_param.Tie as tie
 
@@ -31,7 +31,7 @@ returns c =
     let a = c .before .before .before .before .before .before .before .before .before .args in
     let p = c .before .before .before .before .before .before .before .before .before .pre in
     let F = funcOf (a .func .now) in
-    put-same (c .before .before .put-front .ensures) (front-same _ (c .before .before .before .opcode .ensures) refl refl refl refl ∙ param-is F (a .first) (a .i) (p .1 .0) _ _ _ (c .before .before .before .before .before .before .param-attrs .ensures) (c .before .before .before .before .before .param-type .ensures) refl)
+    put-same (c .before .before .put-front .ensures) (front-same _ (c .before .before .before .opcode .ensures) refl refl refl refl ∙ param-items F (a .first) (a .i) (p .1 .0) _ _ _ (c .before .before .before .before .before .before .param-attrs .ensures) (c .before .before .before .before .before .param-type .ensures) refl)
 
 pub put-param-spec : {M : Type 1} → statement M
 put-param-spec =

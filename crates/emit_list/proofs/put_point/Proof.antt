@@ -7,8 +7,8 @@ use borrow.Author.Needs.{needs}
 use Rattle.func.specs.Decode.{funcOf}
 use Rattle.terminators.specs.At.{pointAt}
 use Rattle.lifting_blocks.specs.Flat.{Status}
-use Rattle.blocks.specs.Absorbs.{stands, statusWord, word-gone}
-use Rattle.emit_ids.specs.Giving.{not-here, number-is, starts-here}
+use Rattle.block_absorbs.specs.Absorbs.{stands, statusWord, word-gone}
+use Rattle.emit_names.specs.Standing.{not-here, number-is, starts-here}
 use Rattle.emit_words.specs.Put.{put-more, put-none, put-same}
 use Rattle.emit_list.specs.Points.{items-gone, items-goes, items-starts}
 use Rattle.emit_list.specs.Laws.{goes-with}
@@ -21,7 +21,7 @@ returns c =
     let p = c .before .before .before .before .before .pre in
     let F = funcOf (a .func .now) in
     put-same (put-none (omega arith) (omega arith))
-    (sym (items-gone F (a .first) (a .i) (word-gone (stands F (a .i)) (pointAt F (a .i)) (sym (p .0 .ready .laid .glued .status (a .i) (p .1)) ∙ sym (c .before .number .ensures) ∙ c .if1 .taken))))
+    (sym (items-gone F (a .first) (a .i) (word-gone (stands F (a .i)) (pointAt F (a .i)) (sym (p .0 .ready .laid .absorbing .status (a .i) (p .1)) ∙ sym (c .before .number .ensures) ∙ c .if1 .taken))))
 
 add-if2 : tie.Need-add-if2
 add-if2 c =
@@ -51,7 +51,7 @@ returns-3 c =
     let p = c .before .before .before .before .before .before .before .before .before .before .before .pre in
     let F = funcOf (a .func .now) in
     let n = not-here (p .0 .ready .laid) (a .i) (p .1) (c .before .before .before .before .before .number2 .ensures) (c .before .before .before .before .before .before .before .number .ensures) (c .before .before .before .before .if2 .left) in
-    let g = goes-with (stands F (a .i)) (λ e. c .before .before .before .before .before .before .if1 .left (c .before .before .before .before .before .before .before .number .ensures ∙ p .0 .ready .laid .glued .status (a .i) (p .1) ∙ ap (λ (s : Status). statusWord s (pointAt F (a .i))) e)) n in
+    let g = goes-with (stands F (a .i)) (λ e. c .before .before .before .before .before .before .if1 .left (c .before .before .before .before .before .before .before .number .ensures ∙ p .0 .ready .laid .absorbing .status (a .i) (p .1) ∙ ap (λ (s : Status). statusWord s (pointAt F (a .i))) e)) n in
     put-same (c .before .before .put-rest2 .ensures) (sym (items-goes F (a .first) (a .i) (g .1)))
 
 pub put-point-spec : {M : Type 1} → statement M

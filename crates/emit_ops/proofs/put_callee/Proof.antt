@@ -4,7 +4,7 @@ use native.Mathlib.Omega.{arith}
 use borrow.Author.Needs.{needs}
 use Prim.Native.Nat.{ℕ}
 use Rattle.emit_lists.specs.declared.Callee.{Callee}
-use Rattle.emit_lists.specs.Named.{calleeOf}
+use Rattle.emit_lists.specs.Named.{idsOfCallee}
 use Rattle.emit_words.specs.Put.{put-none, put-same}
 use Rattle.emit_insts.specs.Parts.{idEach}
 use Rattle.emit_ops.proofs.put_callee.Statement.{statement}
@@ -15,11 +15,11 @@ enum-told c = search needs
 
 returns : tie.Need-returns
 returns c =
-    put-same (put-none (omega arith) (omega arith)) (sym (ap (λ (x : Callee). idEach (λ (n : ℕ). n) (calleeOf x)) (c .enum-told .given .1)))
+    put-same (put-none (omega arith) (omega arith)) (sym (ap (λ (x : Callee). idEach (λ (n : ℕ). n) (idsOfCallee x)) (c .enum-told .given .1)))
 
 returns-2 : tie.Need-returns-2
 returns-2 c =
-    put-same (c .before .before .put-id .ensures) (sym (ap (λ (x : Callee). idEach (λ (n : ℕ). n) (calleeOf x)) (c .before .before .before .before .before .x .given .1)))
+    put-same (c .before .before .put-id .ensures) (sym (ap (λ (x : Callee). idEach (λ (n : ℕ). n) (idsOfCallee x)) (c .before .before .before .before .before .x .given .1)))
 
 pub put-callee-spec : {M : Type 1} → statement M
 put-callee-spec =

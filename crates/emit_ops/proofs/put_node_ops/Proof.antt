@@ -11,7 +11,7 @@ use Rattle.general_laws.specs.Members.{in-getD}
 use Rattle.lifting_runs.specs.Refers.{refers}
 use Rattle.emit_words.specs.Put.{Loop, loop-end, loop-start, loop-turn, put-length, put-same}
 use Rattle.emit_insts.specs.Parts.{opIn, upTo-gather}
-use Rattle.emit_insts.specs.Fits.{node-ops}
+use Rattle.emit_insts.specs.Fits.{node-ops-low}
 use Rattle.emit_ops.proofs.put_node_ops.Statement.{statement}
 use Rattle.emit_ops.proofs.put_node_ops.Tie as tie
 
@@ -49,7 +49,7 @@ put-op-requires c κs =
       (
         p .1 .0,
         subst (λ (o : ℕ). o < length (F .ops)) (sym (c .node-op .ensures))
-            (node-ops F (refers F (p .0 .stands .passes .references)) (a .n) _ (in-getD is (c .before .before .before .loop .k) 0 (omega (arith, c .before .before .before .before .node-op-count .ensures)))),
+            (node-ops-low F (refers F (p .0 .stands .passes .references)) (a .n) _ (in-getD is (c .before .before .before .loop .k) 0 (omega (arith, c .before .before .before .before .node-op-count .ensures)))),
       ),
     )
 

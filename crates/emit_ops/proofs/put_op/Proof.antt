@@ -28,7 +28,7 @@ put-values-requires c κs =
     let a = c .before .before .before .before .before .before .before .before .before .before .before .before .before .before .before .args in
     let p = c .before .before .before .before .before .before .before .before .before .before .before .before .before .before .before .pre in
     let F = funcOf (a .func .now) in
-    (p .0, (p .1 .0, (p .1 .1, refers F (p .0 .stands .passes .references) .operands-named (a .o))))
+    (p .0, (p .1 .0, (p .1 .1, refers F (p .0 .stands .passes .references) .named .operands (a .o))))
 
 returns : tie.Need-returns
 returns c =

@@ -2,7 +2,8 @@
 use mathlib.Core.Path.{_∙_}
 use native.Mathlib.Omega.{arith}
 use borrow.Author.Needs.{needs}
-use Rattle.emit_insts.specs.Ready.{few-ops, result-is}
+use Rattle.func.specs.Tables.{few-ops}
+use Rattle.emit_insts.specs.Ready.{result-is}
 use Rattle.emit_ops.proofs.result_of.Statement.{statement}
 use Rattle.emit_ops.proofs.result_of.Tie as tie
 

@@ -6,7 +6,7 @@ use native.Mathlib.Omega.{arith}
 use borrow.Author.Needs.{needs}
 use lib.ListN.{length}
 use Rattle.func.specs.Decode.{funcOf}
-use Rattle.terminators.specs.At.{blockAt}
+use Rattle.terminators.specs.At.{visitedBlock}
 use Rattle.emit_words.specs.Put.{Loop, loop-end, loop-start, loop-turn, put-length, put-same}
 use Rattle.emit_insts.specs.Ready.{ready-visited}
 use Rattle.emit_phis.specs.Items.{phiIn, phis-each}
@@ -15,7 +15,7 @@ use Rattle.emit_phis.proofs.put_phis.Tie as tie
 
 abbrev Inv-loop : tie.InvT-loop
 Inv-loop func work out₀ m first i h ids n d₀ j₀ out d j =
-    Loop (phiIn (funcOf func) first i) (length (blockAt (funcOf func) i .keys)) out₀ d₀ j out d
+    Loop (phiIn (funcOf func) first i) (length (visitedBlock (funcOf func) i .keys)) out₀ d₀ j out d
 
 abbrev μ-loop : tie.MeasureT-loop
 μ-loop func work out₀ m first i h ids n d₀ j₀ out d j = n - j

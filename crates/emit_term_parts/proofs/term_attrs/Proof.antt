@@ -3,7 +3,7 @@ use Rattle.func.specs.Decode.{funcOf}
 use Rattle.terminators.specs.declared.TermKind.{TermKind}
 use Rattle.terminators.specs.Kinds.{termOf}
 use Rattle.terminators.specs.Labels.{fits-as}
-use Rattle.emit_lists.specs.Laws.{back}
+use Rattle.emit_lists.specs.Laws.{list-back}
 use borrow.Author.Needs.{needs}
 use Rattle.emit_term_parts.proofs.term_attrs.Statement.{statement}
 use Rattle.emit_term_parts.proofs.term_attrs.Tie as tie
@@ -14,7 +14,7 @@ ctrl-attrs-requires c κs = let k = c .before .before .before .before .pre in (k
 returns-3 : tie.Need-returns-3
 returns-3 c =
     let s = c .before .before .before .before .before in
-    back (λ (x : TermKind). termOf (funcOf (s .args .func .now)) x .attrs) (c .before .before .w .given .1) (c .ctrl-attrs .ensures)
+    list-back (λ (x : TermKind). termOf (funcOf (s .args .func .now)) x .attrs) (c .before .before .w .given .1) (c .ctrl-attrs .ensures)
 
 pub term-attrs-spec : {M : Type 1} → statement M
 term-attrs-spec =

@@ -8,7 +8,7 @@ use Rattle.terminators.specs.declared.TermKind.{TermKind}
 use Rattle.terminators.specs.Kinds.{termOf}
 use Rattle.terminators.specs.Labels.{fits-as}
 use Rattle.emit_lists.specs.Named.{returnOpcode}
-use Rattle.emit_lists.specs.Laws.{back}
+use Rattle.emit_lists.specs.Laws.{list-back}
 use Rattle.emit_lists.specs.OpcodeLaws.{return-is}
 use borrow.Author.Needs.{needs}
 use Rattle.emit_term_parts.proofs.term_opcode.Statement.{statement}
@@ -30,26 +30,26 @@ returns-2 : tie.Need-returns-2
 returns-2 c =
     let s = c .before .before .before .before .before .before .before in
     let F = funcOf (s .args .func .now) in
-    back (λ (x : TermKind). termOpcode (termOf F x .kind) (termOf F x .ins)) (c .before .before .before .w .given .1)
+    list-back (λ (x : TermKind). termOpcode (termOf F x .kind) (termOf F x .ins)) (c .before .before .before .w .given .1)
     (c .return-opcode .ensures ∙ ap returnOpcode (c .before .region-out-count .ensures) ∙ return-is (regionOf F (c .before .before .before .w .given .0 .0) .outs))
 
 returns-3 : tie.Need-returns-3
 returns-3 c =
     let s = c .before .before .before .before .before .before in
     let F = funcOf (s .args .func .now) in
-    back (λ (x : TermKind). termOpcode (termOf F x .kind) (termOf F x .ins)) (c .before .before .w2 .given .1) (c .line-opcode .ensures)
+    list-back (λ (x : TermKind). termOpcode (termOf F x .kind) (termOf F x .ins)) (c .before .before .w2 .given .1) (c .line-opcode .ensures)
 
 returns-4 : tie.Need-returns-4
 returns-4 c =
     let s = c .before .before .before .before .before .before in
     let F = funcOf (s .args .func .now) in
-    back (λ (x : TermKind). termOpcode (termOf F x .kind) (termOf F x .ins)) (c .before .before .w3 .given .1) (c .entry-opcode .ensures)
+    list-back (λ (x : TermKind). termOpcode (termOf F x .kind) (termOf F x .ins)) (c .before .before .w3 .given .1) (c .entry-opcode .ensures)
 
 returns-5 : tie.Need-returns-5
 returns-5 c =
     let s = c .before .before .before .before .before .before in
     let F = funcOf (s .args .func .now) in
-    back (λ (x : TermKind). termOpcode (termOf F x .kind) (termOf F x .ins)) (c .before .before .w4 .given .1) (c .entry-opcode2 .ensures)
+    list-back (λ (x : TermKind). termOpcode (termOf F x .kind) (termOf F x .ins)) (c .before .before .w4 .given .1) (c .entry-opcode2 .ensures)
 
 pub term-opcode-spec : {M : Type 1} → statement M
 term-opcode-spec =

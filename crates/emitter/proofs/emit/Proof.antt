@@ -10,8 +10,8 @@ use Rattle.refusals.specs.declared.Refusal.the-variants.{Ids}
 use Rattle.lifting.specs.Limits.{highestId}
 use Rattle.func.specs.Decode.{funcOf}
 use Rattle.blocks.specs.Laid.{laid-kept}
-use Rattle.emit_ids.specs.Ids.{ids-kept}
-use Rattle.emitter.specs.Emit.{gives-same, past-ids, wants-not}
+use Rattle.emit_names.specs.Ids.{ids-kept}
+use Rattle.emit_output.specs.Emit.{gives-same, past-ids, wants-not}
 use Rattle.emitter.proofs.Giving.{gives-ids, ids-held, ids-high, ids-low, ids-over}
 use Rattle.emitter.proofs.emit.Statement.{statement}
 use Rattle.emitter.proofs.emit.Tie as tie
@@ -36,7 +36,7 @@ returns-2 c =
 number-requires : tie.Need-number-requires
 number-requires c κs =
     let y = c .before .before .before .lay .ensures in
-    (y .0, (y .1 .0, leb-true _ highestId (sym (c .before .before .before .before .before .before .id-fits .ensures) ∙ not-false _ (c .before .before .before .before .before .if2 .left))))
+    (y .0, leb-true _ highestId (sym (c .before .before .before .before .before .before .id-fits .ensures) ∙ not-false _ (c .before .before .before .before .before .if2 .left)))
 
 returns-3 : tie.Need-returns-3
 returns-3 c =
@@ -44,7 +44,7 @@ returns-3 c =
     let F = funcOf (a .func .now) in
     let n = c .before .before .before .before .number .ensures in (
       gives-ids F (a .first) (length (a .out .now)) (a .out .now) (ids-over F (a .first) (fits-as (n .0) (sym (c .before .next-fits .ensures) ∙ not-true _ (c .if3 .taken)))),
-      (n .1 .1 .1 ∙ c .before .before .before .before .before .before .before .before .lay .ensures .1 .1 .1, wants-not Ids 0 _ refl),
+      (n .1 .1 .1 ∙ c .before .before .before .before .before .before .before .before .lay .ensures .1, wants-not Ids 0 _ refl),
     )
 
 link-requires : tie.Need-link-requires
@@ -53,10 +53,7 @@ link-requires c κs =
     let n = c .before .before .before .before .before .number .ensures in
     let s = n .1 .1 .0 in (
       laid-kept (y .0) (λ x l h. s .before x h) (n .1 .1 .1),
-      (
-        c .before .before .before .before .before .before .before .before .before .before .before .before .before .before .before .before .before .before .pre .0,
-        record { word = λ x l h. s .after x l ∙ y .1 .1 .0 .word x l h },
-      ),
+      c .before .before .before .before .before .before .before .before .before .before .before .before .before .before .before .before .before .before .pre .0,
     )
 
 written-requires : tie.Need-written-requires
@@ -84,7 +81,7 @@ returns-4 c =
     let held = ids-held F (a .first) (sym (c .before .before .before .before .before .before .before .before .before .before .before .before .before .before .before .before .before .before .before .before .before .before .first-fits .ensures) ∙ not-false _ (c .before .before .before .before .before .before .before .before .before .before .before .before .before .before .before .before .before .before .before .before .before .if1 .left)) low (fits-as (n .0) (sym (c .before .before .before .before .before .before .before .before .before .before .next-fits .ensures) ∙ not-false _ (c .before .before .before .before .before .before .before .before .before .if3 .left))) in (
       gives-same (c .before .before .written .ensures .0) (sym (past-ids F (a .first) (length (a .out .now)) held)),
       (
-        c .before .before .before .before .before .before .before .link .ensures .1 .1 .1 .1 ∙ n .1 .1 .1 ∙ c .before .before .before .before .before .before .before .before .before .before .before .before .before .before .before .before .before .lay .ensures .1 .1 .1,
+        c .before .before .before .before .before .before .before .link .ensures .1 .1 .1 .1 ∙ n .1 .1 .1 ∙ c .before .before .before .before .before .before .before .before .before .before .before .before .before .before .before .before .before .lay .ensures .1,
         c .before .before .written .ensures .1,
       ),
     )

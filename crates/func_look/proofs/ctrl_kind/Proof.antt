@@ -3,7 +3,7 @@ use mathlib.Core.Path.{ap, _∙_}
 use lib.Dec.{lit<}
 use Rattle.func.specs.Decode.{funcOf}
 use Rattle.func.specs.Kinds.{ctrlKindFrom, ctrl-kind}
-use Rattle.func.specs.Tables.{ctrlLine, ctrl-in, ctrl-words-are}
+use Rattle.func.specs.Tables.{ctrlLineOf, ctrl-in, ctrl-words-are}
 use borrow.Author.Needs.{needs}
 use Rattle.func_look.proofs.ctrl_kind.Statement.{statement}
 use Rattle.func_look.proofs.ctrl_kind.Tie as tie
@@ -16,4 +16,4 @@ ctrl-kind-spec =
     (λ c κs. search needs)
     (λ c.
     let s = c .before .before .before in
-    c .ctrl-kind-of .ensures ∙ ap ctrlKindFrom (c .before .word .ensures ∙ ctrl-words-are (s .pre .0) (s .args .c) (s .pre .1) 2 (lit< tt)) ∙ ctrl-kind (ctrlLine (funcOf (s .args .func .now)) (s .args .c) .1 .kind)))
+    c .ctrl-kind-of .ensures ∙ ap ctrlKindFrom (c .before .word .ensures ∙ ctrl-words-are (s .pre .0) (s .args .c) (s .pre .1) 2 (lit< tt)) ∙ ctrl-kind (ctrlLineOf (funcOf (s .args .func .now)) (s .args .c) .1 .kind)))

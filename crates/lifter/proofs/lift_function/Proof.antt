@@ -1,78 +1,45 @@
--- A text that the reader denies is refused with its number; of any other the function stands in its slice, and the answer is the one of those tables.
-use mathlib.Core.Path.{_≡_, sym, ap, subst, _∙_}
+-- Slices that are too short are refused by 8, and keep their words; any other answer asks that both end as zeros, and they are cleared once it is there.
+use mathlib.Core.Path.{sym, ap, _∙_}
 use Prim.Native.Nat.{ℕ}
-use native.Mathlib.Omega.{arith}
 use lib.ListN.{length, replicate}
 use borrow.Author.Needs.{needs}
-use Rattle.lifting.specs.Answer as answer
-use Rattle.lifting.specs.Answer.{Answer, answer, outAfter, scratchAfter}
-use Rattle.func.specs.Decode.{funcOf}
-use Rattle.check_text.specs.declared.Parsed.{Parsed}
-use Rattle.reader.specs.Parse.{answerOf, funcAfter, workAfter}
-use Rattle.reader.specs.Same.{accepted, cleared}
-use Rattle.emitter.specs.Emit.{Wants, outcome}
-use Rattle.lifter.specs.Entry.{early, scratch-tables, tabled, wanted-denied, wanted-tabled}
+use borrow.Author.Tests.{not-false, not-true}
+use Rattle.lifting.specs.Answer.{Answer, outAfter, scratchAfter}
+use Rattle.reader.specs.Same.{enough-both, short}
+use Rattle.emit_output.specs.Emit.{outcome}
+use Rattle.lifter.specs.Entry.{early, wanted-denied}
 use Rattle.lifter.proofs.lift_function.Statement.{statement}
 use Rattle.lifter.proofs.lift_function.Tie as tie
 
-enum-told : tie.Need-enum-told
-enum-told c = search needs
-
-from-tables-requires : tie.Need-from-tables-requires
-from-tables-requires c κs =
-    let a = c .before .before .before .before .before .before .before .before .before .before .before .before .before .before .before .before .args in
-    let t = a .text .now in
-    let f = a .func .now in
-    let w = a .work .now in
-    let o = a .out .now in
-    let q = c .before .before .before .before .before .before .before .before .before .parse .ensures in
-    let v = c .before .before .before .before .before .before .before .before .before .parse .last .1 .0 in
-    let e = ap (λ (x : Parsed). answerOf x v) (sym (c .before .before .before .enum-told .given .1)) ∙ q .0 in
-    (accepted t f v (length w) e (q .1 .0), cleared t f v w (c .before .before .before .before .before .before .before .before .before .parse .last .1 .1 .0) e (q .1 .1))
-
 returns : tie.Need-returns
 returns c =
-    let a = c .before .before .before .before .before .before .before .before .before .before .before .before .before .before .args in
+    let a = c .before .before .before .before .before .before .before .before .args in
     let t = a .text .now in
     let f = a .func .now in
     let w = a .work .now in
     let o = a .out .now in
-    let q = c .before .before .before .before .before .before .before .parse .ensures in
-    let v = c .before .before .before .before .before .before .before .parse .last .1 .0 in
-    let e = ap (λ (x : Parsed). answerOf x v) (sym (c .before .p .given .1)) ∙ q .0 in
+    let e = sym (short t (length f) (length w) (sym (c .before .enough .ensures) ∙ not-true _ (c .if1 .taken))) in
     let k = early t (a .first) (length f) (length w) (length o) _ e in (
       ap outcome k,
       (
-        q .1 .0 ∙ ap (λ (x : answer.Parsed). funcAfter x f) (sym e) ∙ ap (λ (x : Answer). scratchAfter x f) k,
-        (q .1 .1 ∙ ap (λ (x : answer.Parsed). workAfter x w) (sym e) ∙ ap (λ (x : Answer). scratchAfter x w) k, (ap (λ (x : Answer). outAfter x o) k, λ z. wanted-denied t (a .first) (length f) (length w) (length o) _ e)),
+        ap (λ (x : Answer). scratchAfter x f) k,
+        (ap (λ (x : Answer). scratchAfter x w) k, (ap (λ (x : Answer). outAfter x o) k, λ z. wanted-denied t (a .first) (length f) (length w) (length o) _ e)),
       ),
     )
 
+lift-requires : tie.Need-lift-requires
+lift-requires c κs =
+    let a = c .before .before .before .before .before .before .before .before .before .before .before .args in
+    enough-both (length (a .func .now)) (length (a .work .now)) (sym (c .before .before .before .before .enough .ensures) ∙ not-false _ (c .before .before .before .if1 .left))
+
 returns-2 : tie.Need-returns-2
 returns-2 c =
-    let a = c .before .before .before .before .before .before .before .before .before .before .before .before .before .before .before .before .before .before .before .before .before .before .before .args in
-    let t = a .text .now in
-    let f = a .func .now in
-    let w = a .work .now in
-    let o = a .out .now in
-    let q = c .before .before .before .before .before .before .before .before .before .before .before .before .before .before .before .before .parse .ensures in
-    let v = c .before .before .before .before .before .before .before .before .before .before .before .before .before .before .before .before .parse .last .1 .0 in
-    let e = ap (λ (x : Parsed). answerOf x v) (sym (c .before .before .before .before .before .before .before .before .before .before .enum-told .given .1)) ∙ q .0 in
-    let F = funcOf v in
-    let g = c .before .before .before .before .before .before .from-tables .ensures in
-    let k = tabled t (a .first) (length f) (length w) (length o) F e in
-    let lf : length v ≡ length f = omega arith in
-    let lw : length (c .before .before .before .before .before .before .before .before .before .before .before .before .before .before .before .before .parse .last .1 .1 .0) ≡ length w = omega arith in (
-      g .0 .told ∙ ap outcome k,
+    let a = c .before .before .before .before .before .before .before .before .before .before .before .before .before .before .before .before .before .before .before .before .before .before .before .before .before .before .args in
+    let l = c .before .before .before .before .before .before .before .before .before .before .before .before .before .before .lift .ensures in (
+      l .0 .told,
       (
-        g .1 .0 ∙ ap (λ (n : ℕ). replicate n 0) lf ∙ sym (scratch-tables F (a .first) (length o) f) ∙ ap (λ (x : Answer). scratchAfter x f) k,
-        (
-          g .1 .1 .0 ∙ ap (λ (n : ℕ). replicate n 0) lw ∙ sym (scratch-tables F (a .first) (length o) w) ∙ ap (λ (x : Answer). scratchAfter x w) k,
-          (
-            g .0 .words ∙ ap (λ (x : Answer). outAfter x o) k,
-            subst (λ (n : ℕ). Wants n (c .before .before .before .before .before .before .from-tables .result)) (wanted-tabled t (a .first) (length f) (length w) (length o) F e) (g .1 .1 .1),
-          ),
-        ),
+        c .before .before .before .before .before .before .clear-all .ensures ∙ ap (λ (n : ℕ). replicate n 0) (l .1 .1 .0) ∙ sym (l .1 .0 (a .func .now)),
+        (c .before .before .clear-all2 .ensures ∙ ap (λ (n : ℕ). replicate n 0) (l .1 .1 .1 .0) ∙ sym (l .1 .0 (a .work .now)), (l .0 .words, l .1 .1 .1 .1)),
       ),
     )
 
@@ -82,11 +49,11 @@ lift-function-spec =
     (tie.spec
     (λ c κs. search needs)
     (λ c. search needs)
-    enum-told
-    from-tables-requires
-    (λ c. search needs)
     (λ c. search needs)
     returns
+    lift-requires
+    (λ c κs. search needs)
+    (λ c κs. search needs)
     (λ c. search needs)
     (λ c. search needs)
     (λ c. search needs)

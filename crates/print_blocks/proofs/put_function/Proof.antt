@@ -6,8 +6,9 @@ use native.Mathlib.Omega.{arith}
 use lib.ListN.{length}
 use borrow.Author.Needs.{needs}
 use Rattle.func.specs.Decode.{funcOf}
-use Rattle.print_bytes.specs.Put.{put-none, put-same}
-use Rattle.print_blocks.specs.Stand.{shows-blocks, lines-none, laid-none, laid-some}
+use Rattle.print_bytes.specs.Put.{put-bytes-none, put-bytes-same}
+use Rattle.print_lines.specs.Positions.{lines-none}
+use Rattle.print_blocks.specs.Stand.{shows-blocks, laid-none, laid-some}
 use Rattle.print_blocks.proofs.put_function.Statement.{statement}
 use Rattle.print_blocks.proofs.put_function.Tie as tie
 
@@ -17,7 +18,7 @@ returns c =
     let F = funcOf (s .args .func .now) in
     let none : length (F .regions) ≡ 0 = sym (c .before .region-total .ensures) ∙ c .if1 .taken in
     let w = s .args .work .now in
-    (put-same (put-none (omega arith) (omega arith)) (sym (lines-none F none)), laid-none F w w (F .regions) none (s .pre .1 .1))
+    (put-bytes-same (put-bytes-none (omega arith) (omega arith)) (sym (lines-none F none)), laid-none F w w (F .regions) none)
 
 put-lines-requires : tie.Need-put-lines-requires
 put-lines-requires c κs = shows-blocks (c .before .before .before .before .blocks2 .ensures .0) (c .before .before .before .before .blocks2 .ensures .1 .0)

@@ -6,7 +6,7 @@ use native.Mathlib.Omega.{arith}
 use borrow.Author.Needs.{needs}
 use borrow.Fn.Kinds.{In}
 use borrow.Fn.PlainCycle.{Measures, is, falls, and}
-use Rattle.print_bytes.specs.Put.{put-same, put-more, put-length}
+use Rattle.print_bytes.specs.Put.{put-bytes-same, put-bytes-more, put-bytes-length}
 use Rattle.print_bytes.specs.Lines.{digits-small, digits-large}
 use Rattle.print_bytes.proofs.put_number.Reads as put-number
 use Rattle.print_bytes.proofs.put_number.Kinds as put-number-kinds
@@ -31,20 +31,20 @@ abbrev calls : ℕ → put-number-lts.Claims
 calls t = (put-byte-reads.Asked, put-byte-reads.Learnt, put-number-below t, put-number.Post)
 
 same-length : (t : ℕ) → put-number-lts.Need-same-length (calls t) (put-number-at t) put-number.Post
-same-length t c = put-length (c .before .before .put-byte .ensures)
+same-length t c = put-bytes-length (c .before .before .put-byte .ensures)
 
 returns : (t : ℕ) → put-number-lts.Need-returns (calls t) (put-number-at t) put-number.Post
-returns t c = put-same (c .before .before .put-byte .ensures) (sym (digits-small (c .before .before .before .before .before .before .args .n) (omega arith)))
+returns t c = put-bytes-same (c .before .before .put-byte .ensures) (sym (digits-small (c .before .before .before .before .before .before .args .n) (omega arith)))
 
 put-number-requires : (t : ℕ) → put-number-lts.Need-put-number-requires (calls t) (put-number-at t) put-number.Post
 put-number-requires t c κs = (omega (arith, c .before .before .before .pre .0), search needs)
 
 same-length-2 : (t : ℕ) → put-number-lts.Need-same-length-2 (calls t) (put-number-at t) put-number.Post
-same-length-2 t c = put-length (put-more (c .before .before .before .before .before .before .put-number .ensures) (c .before .before .put-byte2 .ensures))
+same-length-2 t c = put-bytes-length (put-bytes-more (c .before .before .before .before .before .before .put-number .ensures) (c .before .before .put-byte2 .ensures))
 
 returns-2 : (t : ℕ) → put-number-lts.Need-returns-2 (calls t) (put-number-at t) put-number.Post
 returns-2 t c =
-    put-same (put-more (c .before .before .before .before .before .before .put-number .ensures) (c .before .before .put-byte2 .ensures)) (sym (digits-large (c .before .before .before .before .before .before .before .before .before .before .args .n) (omega arith) (omega arith)))
+    put-bytes-same (put-bytes-more (c .before .before .before .before .before .before .put-number .ensures) (c .before .before .put-byte2 .ensures)) (sym (digits-large (c .before .before .before .before .before .before .before .before .before .before .args .n) (omega arith) (omega arith)))
 
 pub +put-number-spec : {M : Type 1} → statement M
 +put-number-spec =

@@ -3,9 +3,9 @@ use Prim.Native.Nat.{_≤_, _-_}
 use native.Mathlib.Omega.{arith}
 use lib.ListN.{length, drop}
 use borrow.Author.Needs.{needs}
-use Rattle.read_cursor.specs.Laws.{here}
+use Rattle.read_cursor.specs.Laws.{text-here}
 use Rattle.print_bytes.specs.Taken.{drop-past}
-use Rattle.print_bytes.specs.Put.{Part, part-start, part-more, part-done, put-length}
+use Rattle.print_bytes.specs.Put.{Part, part-start, part-more, part-done, put-bytes-length}
 use Rattle.print_bytes.proofs.put_bytes.Statement.{statement}
 use Rattle.print_bytes.proofs.put_bytes.Tie as tie
 
@@ -20,10 +20,10 @@ loop-holds c = (omega arith, part-start (c .before .before .args .s .now) (omega
 
 loop-again : tie.Need-loop-again Inv-loop μ-loop
 loop-again c =
-    (omega arith, part-more (c .before .before .before .before .before .before .loop .inv .1) (c .before .before .put-byte .ensures) (here (c .before .before .before .before .before .before .before .before .before .args .s .now) (c .before .before .before .before .before .before .loop .i) (omega arith)))
+    (omega arith, part-more (c .before .before .before .before .before .before .loop .inv .1) (c .before .before .put-byte .ensures) (text-here (c .before .before .before .before .before .before .before .before .before .args .s .now) (c .before .before .before .before .before .before .loop .i) (omega arith)))
 
 same-length : tie.Need-same-length Inv-loop μ-loop
-same-length c = put-length (c .before .loop .inv .1 .put)
+same-length c = put-bytes-length (c .before .loop .inv .1 .put)
 
 returns : tie.Need-returns Inv-loop μ-loop
 returns c = part-done (c .before .loop .inv .1) (drop-past (c .before .loop .i) (c .before .before .before .before .args .s .now) (omega arith))

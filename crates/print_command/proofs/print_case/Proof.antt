@@ -3,18 +3,18 @@ use mathlib.Core.Path.{sym}
 use native.Mathlib.Omega.{arith}
 use lib.Seq.{length-take-le}
 use borrow.Author.Needs.{needs}
-use Rattle.print_bytes.specs.Put.{put-length, put-low}
+use Rattle.print_bytes.specs.Put.{put-bytes-length, put-low}
 use Rattle.print_command.specs.Room.{case-room}
 use Rattle.print_command.proofs.print_case.Statement.{statement}
 use Rattle.print_command.proofs.print_case.Tie as tie
 
 array-share-prefix-out : tie.Need-array-share-prefix-out
-array-share-prefix-out c = let p = c .before .put-case .ensures in omega (arith, put-low p (case-room (c .before .before .before .before .args .case .now)), put-length p)
+array-share-prefix-out c = let p = c .before .put-case .ensures in omega (arith, put-low p (case-room (c .before .before .before .before .args .case .now)), put-bytes-length p)
 
 slice-aggregate-write-all : tie.Need-slice-aggregate-write-all
 slice-aggregate-write-all c =
     let p = c .before .before .put-case .ensures in
-    sym (length-take-le _ _ (omega (arith, put-low p (case-room (c .before .before .before .before .before .args .case .now)), put-length p)))
+    sym (length-take-le _ _ (omega (arith, put-low p (case-room (c .before .before .before .before .before .args .case .now)), put-bytes-length p)))
 
 pub print-case-spec : {M : Type 1} → statement M
 print-case-spec =

@@ -6,8 +6,8 @@ use lib.ListN.{drop}
 use borrow.Author.Needs.{needs}
 use Rattle.lifting.specs.Bytes.{bytes}
 use Rattle.command.specs.declared.Command.{Command}
-use Rattle.print_bytes.specs.Put.{put-more, put-same}
-use Rattle.print_list.specs.Laws.{tail-part}
+use Rattle.print_bytes.specs.Put.{put-bytes-more, put-bytes-same}
+use Rattle.print_bytes.specs.Taken.{tail-part}
 use Rattle.print_command.specs.Printed.{printedFor}
 use Rattle.print_command.proofs.put_case.Statement.{statement}
 use Rattle.print_command.proofs.put_case.Tie as tie
@@ -20,7 +20,7 @@ returns c =
     let same =
     ap (printedFor (opened .result .command)) (tail-part (opened .result .at) case)
     ∙ ap (λ (x : Command × ℕ). printedFor (x .0) (drop (x .1) case)) (opened .ensures .0) in
-    put-same (put-more (put .ensures) (c .before .before .put-bytes .ensures)) (ap (λ (l : List ℕ). l ++ bytes "%%\n") same)
+    put-bytes-same (put-bytes-more (put .ensures) (c .before .before .put-bytes .ensures)) (ap (λ (l : List ℕ). l ++ bytes "%%\n") same)
 
 pub put-case-spec : {M : Type 1} → statement M
 put-case-spec =

@@ -4,7 +4,7 @@ use mathlib.Core.List.{List}
 use Prim.Native.Nat.{ℕ}
 use borrow.Author.Needs.{needs}
 use Rattle.command.specs.declared.Command.{Command}
-use Rattle.print_bytes.specs.Put.{put-same}
+use Rattle.print_bytes.specs.Put.{put-bytes-same}
 use Rattle.print_command.specs.Printed.{commandBytes, helpBytes, unknownBytes}
 use Rattle.print_command.proofs.put_of.Statement.{statement}
 use Rattle.print_command.proofs.put_of.Tie as tie
@@ -15,23 +15,23 @@ same input func work out e = sym (ap (λ (z : Command). commandBytes z input fun
 
 returns : tie.Need-returns
 unfolding commandBytes helpBytes unknownBytes
-returns c = put-same (c .before .before .before .before .before .before .before .before .put-input .ensures .0) (same (c .before .before .before .before .before .before .before .before .before .before .before .before .before .before .before .before .before .before .before .before .args .input .now) _ _ _ (c .before .before .before .before .before .before .before .before .before .before .before .before .before .enum-told .given .1))
+returns c = put-bytes-same (c .before .before .before .before .before .before .before .before .put-input .ensures .0) (same (c .before .before .before .before .before .before .before .before .before .before .before .before .before .before .before .before .before .before .before .before .args .input .now) _ _ _ (c .before .before .before .before .before .before .before .before .before .before .before .before .before .enum-told .given .1))
 
 returns-2 : tie.Need-returns-2
 unfolding commandBytes helpBytes unknownBytes
-returns-2 c = put-same (c .before .before .before .before .before .before .put-read .ensures .0) (same (c .before .before .before .before .before .before .before .before .before .before .before .before .before .before .before .before .before .args .input .now) _ _ _ (c .before .before .before .before .before .before .before .before .before .before .enum-told2 .given .1))
+returns-2 c = put-bytes-same (c .before .before .before .before .before .before .put-read .ensures .0) (same (c .before .before .before .before .before .before .before .before .before .before .before .before .before .before .before .before .before .args .input .now) _ _ _ (c .before .before .before .before .before .before .before .before .before .before .enum-told2 .given .1))
 
 returns-3 : tie.Need-returns-3
 unfolding commandBytes helpBytes unknownBytes
-returns-3 c = put-same (c .before .before .before .before .before .before .put-answer .ensures .0) (same (c .before .before .before .before .before .before .before .before .before .before .before .before .before .before .before .before .before .args .input .now) _ _ _ (c .before .before .before .before .before .before .before .before .before .before .enum-told3 .given .1))
+returns-3 c = put-bytes-same (c .before .before .before .before .before .before .put-answer .ensures .0) (same (c .before .before .before .before .before .before .before .before .before .before .before .before .before .before .before .before .before .args .input .now) _ _ _ (c .before .before .before .before .before .before .before .before .before .before .enum-told3 .given .1))
 
 returns-4 : tie.Need-returns-4
 unfolding commandBytes helpBytes unknownBytes
-returns-4 c = put-same (c .before .before .put-bytes .ensures) (same (c .before .before .before .before .before .before .before .before .before .before .before .before .args .input .now) _ _ _ (c .before .before .before .before .before .enum-told4 .given .1))
+returns-4 c = put-bytes-same (c .before .before .put-bytes .ensures) (same (c .before .before .before .before .before .before .before .before .before .before .before .before .args .input .now) _ _ _ (c .before .before .before .before .before .enum-told4 .given .1))
 
 returns-5 : tie.Need-returns-5
 unfolding commandBytes helpBytes unknownBytes
-returns-5 c = put-same (c .before .before .put-bytes2 .ensures) (same (c .before .before .before .before .before .before .before .before .before .before .before .before .args .input .now) _ _ _ (c .before .before .before .before .before .enum-told5 .given .1))
+returns-5 c = put-bytes-same (c .before .before .put-bytes2 .ensures) (same (c .before .before .before .before .before .before .before .before .before .before .before .before .args .input .now) _ _ _ (c .before .before .before .before .before .enum-told5 .given .1))
 
 pub put-of-spec : {M : Type 1} → statement M
 put-of-spec =

@@ -4,12 +4,11 @@ use mathlib.Core.Path.{ap, _∙_}
 use lib.ListN.{length}
 use native.Mathlib.Omega.{arith}
 use borrow.Author.Needs.{needs}
-use Rattle.print_bytes.specs.Put.{PutBytes, put-same}
-use Rattle.print_bytes.specs.Shown.{refusedBytes}
+use Rattle.print_bytes.specs.Put.{PutBytes, put-bytes-same}
 use mathlib.Core.List.{List}
 use Prim.Native.Nat.{ℕ, _+_, _*_, _≤_}
 use Rattle.lifting.specs.Answer.{answer, outAfter, scratchAfter}
-use Rattle.print_list.specs.Laws.{tail-part}
+use Rattle.print_bytes.specs.Taken.{tail-part}
 use Rattle.print_lifted.specs.Input.{answerBytes, bad-leaves, bad-line, good-leaves, good-line, inputBytes, line-low}
 use Rattle.print_lifted.specs.Room.{input-room}
 use Rattle.print_lifted.proofs.put_input.Statement.{statement}
@@ -23,10 +22,10 @@ low out input func work p = omega (arith, p .place, input-room out input func wo
 
 returns : tie.Need-returns
 returns c =
-    let a = c .before .before .before .before .before .before .before .before .before .before .before .before .before .args in
-    let r = c .before .before .before .before .before .before .before .first-line .ensures in
-    let b = c .before .before .before .before .before .enum-told .given .1 in
-    let p = put-same (c .before .before .refused .ensures) (ap refusedBytes (c .before .before .before .before .number .ensures) ∙ bad-line (a .input .now) (length (a .func .now)) (length (a .work .now)) (length (a .out .now)) _ r b) in
+    let a = c .before .before .before .before .before .before .before .before .before .before .before .before .args in
+    let r = c .before .before .before .before .before .before .first-line .ensures in
+    let b = c .before .before .before .before .enum-told .given .1 in
+    let p = put-bytes-same (c .before .before .bad-line .ensures) (bad-line (a .input .now) (length (a .func .now)) (length (a .work .now)) (length (a .out .now)) _ r b) in
     (p, (low (length (a .out .now)) (a .input .now) (length (a .func .now)) (length (a .work .now)) p, (bad-leaves (a .input .now) (length (a .func .now)) (length (a .work .now)) (length (a .out .now)) _ r scratchAfter (a .func .now) b, (bad-leaves (a .input .now) (length (a .func .now)) (length (a .work .now)) (length (a .out .now)) _ r scratchAfter (a .work .now) b, bad-leaves (a .input .now) (length (a .func .now)) (length (a .work .now)) (length (a .out .now)) _ r outAfter (a .out .now) b))))
 
 sub-put-text : tie.Need-sub-put-text
@@ -48,7 +47,7 @@ returns-2 c =
     let h = c .before .before .before .before .before .before .before .before .before .before .before .before .before .before .before .first .given .1 in
     let z = tail-part k (a .input .now) in
     let e = c .before .before .before .before .before .before .before .before .put-text .ensures in
-    let p = put-same (e .0)
+    let p = put-bytes-same (e .0)
     (ap (λ (t : List ℕ). answerBytes (answer t n (length (a .func .now)) (length (a .work .now)) (length (a .out .now)))) z
     ∙ good-line (a .input .now) (length (a .func .now)) (length (a .work .now)) (length (a .out .now)) _ r h) in
     (p, (low (length (a .out .now)) (a .input .now) (length (a .func .now)) (length (a .work .now)) p, (e .1 .0 ∙ ap (λ (t : List ℕ). scratchAfter (answer t n (length (a .func .now)) (length (a .work .now)) (length (a .out .now))) (a .func .now)) z ∙ good-leaves (a .input .now) (length (a .func .now)) (length (a .work .now)) (length (a .out .now)) _ r scratchAfter (a .func .now) h, (e .1 .1 .0 ∙ ap (λ (t : List ℕ). scratchAfter (answer t n (length (a .func .now)) (length (a .work .now)) (length (a .out .now))) (a .work .now)) z ∙ good-leaves (a .input .now) (length (a .func .now)) (length (a .work .now)) (length (a .out .now)) _ r scratchAfter (a .work .now) h, e .1 .1 .1 ∙ ap (λ (t : List ℕ). outAfter (answer t n (length (a .func .now)) (length (a .work .now)) (length (a .out .now))) (a .out .now)) z ∙ good-leaves (a .input .now) (length (a .func .now)) (length (a .work .now)) (length (a .out .now)) _ r outAfter (a .out .now) h))))
@@ -60,7 +59,6 @@ put-input-spec =
     (λ c κs. search needs)
     (λ c. search needs)
     enum-told
-    (λ c κs. search needs)
     (λ c κs. search needs)
     (λ c. search needs)
     returns

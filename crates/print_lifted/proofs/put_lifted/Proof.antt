@@ -2,8 +2,8 @@
 use mathlib.Core.Path.{sym, ap, subst, _∙_}
 use lib.Seq.{length-take-le}
 use borrow.Author.Needs.{needs}
-use Rattle.emitter.specs.declared.Lifted.{Lifted}
-use Rattle.print_bytes.specs.Put.{put-same}
+use Rattle.results.specs.declared.Lifted.{Lifted}
+use Rattle.print_bytes.specs.Put.{put-bytes-same}
 use Rattle.print_bytes.specs.Shown.{refusedBytes}
 use Rattle.print_lifted.specs.Input.{InputStands, liftedBytes}
 use Rattle.print_lifted.proofs.put_lifted.Statement.{statement}
@@ -17,12 +17,12 @@ slice-aggregate-list c =
 returns : tie.Need-returns
 returns c =
     let a = c .before .before .before .before .before .before .before .before .before .before .args in
-    put-same (c .before .before .list .ensures) (sym (ap (λ (x : Lifted). liftedBytes x (a .out .now)) (c .before .before .before .before .before .before .r .given .1)))
+    put-bytes-same (c .before .before .list .ensures) (sym (ap (λ (x : Lifted). liftedBytes x (a .out .now)) (c .before .before .before .before .before .before .r .given .1)))
 
 returns-2 : tie.Need-returns-2
 returns-2 c =
     let a = c .before .before .before .before .before .before .before .before .before .before .args in
-    put-same (c .before .before .refused .ensures) (ap refusedBytes (c .before .before .before .before .number .ensures) ∙ sym (ap (λ (x : Lifted). liftedBytes x (a .out .now)) (c .before .before .before .before .before .before .r2 .given .1)))
+    put-bytes-same (c .before .before .refused .ensures) (ap refusedBytes (c .before .before .before .before .number .ensures) ∙ sym (ap (λ (x : Lifted). liftedBytes x (a .out .now)) (c .before .before .before .before .before .before .r2 .given .1)))
 
 pub put-lifted-spec : {M : Type 1} → statement M
 put-lifted-spec =

@@ -7,10 +7,10 @@ use native.Mathlib.Omega.{arith}
 use lib.ListN.{length, drop}
 use borrow.Author.Needs.{needs}
 use Rattle.lifting.specs.Words.{instFrom, listFrom}
-use Rattle.print_bytes.specs.Put.{Part, part-start, part-more, part-done, put-same, put-length}
+use Rattle.print_bytes.specs.Put.{Part, part-start, part-more, part-done, put-bytes-same, put-bytes-length}
 use Rattle.print_bytes.specs.Shown.{instBytes, listBytes}
 use Rattle.print_bytes.specs.Taken.{list-next, list-end}
-use Rattle.print_list.specs.Laws.{tail-part}
+use Rattle.print_bytes.specs.Taken.{tail-part}
 use Rattle.print_list.proofs.list.Statement.{statement}
 use Rattle.print_list.proofs.list.Tie as tie
 
@@ -34,10 +34,10 @@ loop-again c =
     let from = c .before .before .before .before .before .before .before .loop .from in
     let inst = ap (λ (l : List ℕ). instBytes (instFrom l .got)) (tail-part from words) in
     let next = list-next words from (omega arith) ∙ ap (λ (l : List ℕ). instFrom (drop from words) .got ∷ listFrom l) (sym (c .next-inst .ensures .same)) in
-    (c .next-inst .ensures .fits, part-more (c .before .before .before .before .before .before .before .loop .inv .1) (put-same (c .before .before .before .put-inst .ensures) inst) (ap listBytes next))
+    (c .next-inst .ensures .fits, part-more (c .before .before .before .before .before .before .before .loop .inv .1) (put-bytes-same (c .before .before .before .put-inst .ensures) inst) (ap listBytes next))
 
 same-length : tie.Need-same-length Inv-loop μ-loop
-same-length c = put-length (c .before .loop .inv .1 .put)
+same-length c = put-bytes-length (c .before .loop .inv .1 .put)
 
 returns : tie.Need-returns Inv-loop μ-loop
 unfolding listBytes

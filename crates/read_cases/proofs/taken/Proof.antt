@@ -6,8 +6,8 @@ use native.Mathlib.Omega.{arith}
 use lib.ListN.{drop}
 use lib.Seq.{paste}
 use borrow.Author.Needs.{needs}
-use Rattle.read_cases.specs.Cut.{fitting}
-use Rattle.read_cases.specs.Held.{held, heldAfter, held-cut, lenAfter, partOf}
+use Rattle.read_marks.specs.Cut.{fittingBytes}
+use Rattle.read_cases.specs.Held.{heldCase, heldAfter, held-cut, lenAfter, takenPart}
 use Rattle.read_cases.proofs.taken.Statement.{statement}
 use Rattle.read_cases.proofs.taken.Tie as tie
 
@@ -21,7 +21,7 @@ returns c =
     let state = start .args .state in
     let end = cut .result .end in
     let next = cut .result .matched in
-    let part = partOf (state .from) end piece in
+    let part = takenPart (state .from) end piece in
     let left = drop end piece in
     let kept = keep .ensures .1 .0 in
     let fits = keep .ensures .1 .1 in (
@@ -31,8 +31,8 @@ returns c =
         (
           kept,
           (
-            ap (λ (x : List ℕ). heldAfter (held x (lenAfter next (keep .result)) next) left) kept
-                ∙ ap (λ (n : ℕ). heldAfter (held (paste text (state .len) part (fitting text (state .len) part)) (lenAfter next n) next) left) (keep .ensures .0)
+            ap (λ (x : List ℕ). heldAfter (heldCase x (lenAfter next (keep .result)) next) left) kept
+                ∙ ap (λ (n : ℕ). heldAfter (heldCase (paste text (state .len) part (fittingBytes text (state .len) part)) (lenAfter next n) next) left) (keep .ensures .0)
                 ∙ sym (held-cut piece text (state .from) (state .len) (state .matched) end next (omega (arith, start .pre .0, start .pre .2)) (start .pre .1) (cut .ensures .0)),
             (record { len = omega (arith, fits .0, fits .1); from = omega (arith, cut .ensures .1 .0, start .pre .2); till = omega arith }, fits .0),
           ),

@@ -1,5 +1,6 @@
 -- By the kind: the head that tells a line of it, and then the line.
-use Rattle.read_cursor.specs.Answers.{opOf, stepOf}
+use Rattle.read_insts.specs.Answers.{opAnswer}
+use Rattle.read_cursor.specs.Answers.{stepOf}
 use Rattle.read_cursor.specs.Laws.{by-answer}
 use Rattle.read_lines.specs.declared.LineKind.the-variants as kinds
 use Rattle.read_lines.specs.Nodes.{nodeWordOf}
@@ -21,7 +22,7 @@ returns-4 : tie.Need-returns-4
 returns-4 c = (other-line kinds.Node (c .before .before .before .enum-told7 .given .1) (by-answer nodeWordOf (c .enum-told8 .given .1) (c .before .before .node-word .ensures)) (search needs), search needs)
 
 returns-5 : tie.Need-returns-5
-returns-5 c = (other-line kinds.Op (c .before .before .before .enum-told9 .given .1) (by-answer opOf (c .enum-told10 .given .1) (c .before .before .op .ensures)) (search needs), search needs)
+returns-5 c = (other-line kinds.Op (c .before .before .before .enum-told9 .given .1) (by-answer opAnswer (c .enum-told10 .given .1) (c .before .before .op .ensures)) (search needs), search needs)
 
 returns-6 : tie.Need-returns-6
 returns-6 c =
@@ -45,7 +46,7 @@ returns-9 c =
 
 returns-10 : tie.Need-returns-10
 returns-10 c =
-    let p = by-answer opOf (c .before .before .before .before .before .o .given .1) (c .before .before .before .before .before .before .before .op .ensures) in
+    let p = by-answer opAnswer (c .before .before .before .before .before .o .given .1) (c .before .before .before .before .before .before .before .op .ensures) in
     (this-line kinds.Op (c .before .before .before .before .before .before .before .before .enum-told9 .given .1) p (c .before .before .op-line .ensures .0), search needs)
 
 pub line-spec : {M : Type 1} → statement M

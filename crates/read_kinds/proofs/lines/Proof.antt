@@ -4,13 +4,13 @@ use Prim.Native.Nat.{_-_}
 use lib.ListN.{length}
 use Rattle.read_lines.specs.declared.LineRead.the-variants as answer
 use Rattle.read_lines.specs.Lines.{Going, going-first}
-use Rattle.read_lines.specs.Kinds.{keepLine, less-line, line-told, lines-more, lines-over, lines-wrong, linesOf}
+use Rattle.read_lines.specs.Kinds.{keepKind, less-line, line-told, kind-lines-more, lines-over, lines-wrong, kindLines}
 use borrow.Author.Needs.{needs}
 use Rattle.read_kinds.proofs.lines.Statement.{statement}
 use Rattle.read_kinds.proofs.lines.Tie as tie
 
 abbrev Inv-loop : tie.InvT-loop
-Inv-loop func₀ text kind c₀ func c = Going length (linesOf kind) (keepLine kind) text (c₀ .at) func₀ (c .at) func
+Inv-loop func₀ text kind c₀ func c = Going length (kindLines kind) (keepKind kind) text (c₀ .at) func₀ (c .at) func
 
 abbrev μ-loop : tie.MeasureT-loop
 μ-loop func₀ text kind c₀ func c = length text - c .at
@@ -31,7 +31,7 @@ loop-less c = less-line (line-told (c .before .before .before .before .s .given 
 loop-again : tie.Need-loop-again Inv-loop μ-loop
 loop-again c =
     let p = line-told (c .before .before .before .before .s .given .1 ∙ ap answer.Line (c .before .s2 .given .1)) (c .before .before .before .before .before .before .before .before .line .ensures .0) in
-    lines-more (c .before .before .before .before .before .before .before .before .before .before .before .before .before .args .kind) (c .before .before .before .before .before .before .before .before .before .before .loop .inv) p (search needs)
+    kind-lines-more (c .before .before .before .before .before .before .before .before .before .before .before .before .before .args .kind) (c .before .before .before .before .before .before .before .before .before .before .loop .inv) p (search needs)
 
 pub lines-spec : {M : Type 1} → statement M
 lines-spec =

@@ -5,7 +5,7 @@ use Rattle.reader.proofs.leave.Statement.{statement}
 use Rattle.reader.proofs.leave.Tie as tie
 
 returns-2 : tie.Need-returns-2
-returns-2 c = kept-told (c .before .before .before .before .before .before .before .args .func .now) (c .before .before .before .before .enum-told2 .given .1) (c .before .before .clear .ensures)
+returns-2 c = kept-told (c .before .before .before .before .before .before .before .args .func .now) (c .before .before .before .before .enum-told2 .given .1) (c .before .before .clear-all .ensures)
 
 pub leave-spec : {M : Type 1} → statement M
 leave-spec =

@@ -4,13 +4,13 @@ use mathlib.Core.Path.{_≡_, refl}
 use native.Mathlib.Omega.{arith}
 use lib.ListN.{length}
 use borrow.Author.Needs.{needs}
-use Rattle.read_cases.specs.Held.{Within}
+use Rattle.read_cases.specs.Held.{CountsWithin}
 use Rattle.replay.proofs.all.Statement.{statement}
 use Rattle.replay.proofs.all.Tie as tie
 
 abbrev Inv-loop : tie.InvT-loop
 Inv-loop buffer₀ text₀ turns₀ state₀ buffer text turns state =
-    Within 65536 (length text) state × (length text ≡ length text₀) × (length buffer ≡ 65536) × (length buffer ≡ length buffer₀)
+    CountsWithin 65536 (length text) state × (length text ≡ length text₀) × (length buffer ≡ 65536) × (length buffer ≡ length buffer₀)
 
 abbrev μ-loop : tie.MeasureT-loop
 μ-loop buffer₀ text₀ turns₀ state₀ buffer text turns state = turns

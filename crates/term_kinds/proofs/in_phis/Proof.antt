@@ -1,11 +1,11 @@
--- Only a loop has phis at its entry, and they are the inputs of its body, its first child (`loop-keys`, `no-keys`).
+-- Only a loop has phis at its entry, and they are the inputs of its body, its first child (`loop-keys`, `no-phis`).
 use mathlib.Core.Path.{sym, ap, _∙_}
 use Prim.Native.Nat.{ℕ}
 use lib.ListN.{length}
 use native.Mathlib.Omega.{arith}
 use Rattle.lifting.specs.Parts.{nodeOf, regionOf}
 use Rattle.func.specs.Decode.{funcOf}
-use Rattle.terminators.specs.Laws.{loop-child, loop-keys, no-keys}
+use Rattle.terminators.specs.Laws.{loop-child, loop-keys, no-phis}
 use borrow.Author.Needs.{needs}
 use Rattle.term_kinds.proofs.in_phis.Statement.{statement}
 use Rattle.term_kinds.proofs.in_phis.Tie as tie
@@ -38,7 +38,7 @@ returns-2 : tie.Need-returns-2
 returns-2 c =
     let s = c .before .before .before in
     let F = funcOf (s .args .func .now) in
-    no-keys F (nodeOf F (s .args .n)) (s .args .n) (sym (c .before .is-loop .ensures) ∙ c .if1 .left)
+    no-phis F (nodeOf F (s .args .n)) (s .args .n) (sym (c .before .is-loop .ensures) ∙ c .if1 .left)
 
 pub in-phis-spec : {M : Type 1} → statement M
 in-phis-spec =

@@ -1,8 +1,8 @@
 -- The word in the table of parents is 0 at a root (`at-root`), and else the number of the node around it plus 1 (`in-node`), of which the region
--- is a child (`held`).
+-- is a child (`held-child`).
 use mathlib.Core.Path.{_∙_}
 use Rattle.func.specs.Decode.{funcOf}
-use Rattle.terminators.specs.Laws.{at-root, held, in-node}
+use Rattle.terminators.specs.Laws.{at-root, held-child, in-node}
 use borrow.Author.Needs.{needs}
 use Rattle.term_kinds.proofs.region_exit.Statement.{statement}
 use Rattle.term_kinds.proofs.region_exit.Tie as tie
@@ -16,7 +16,7 @@ returns c =
 child-exit-requires : tie.Need-child-exit-requires
 child-exit-requires c κs =
     let s = c .before .before .before .before in
-    let h = held (funcOf (s .args .func .now)) (s .args .r) (c .before .number .ensures ∙ s .pre .1 .0 .1 .word (s .args .r) (s .pre .1 .1 .1))
+    let h = held-child (funcOf (s .args .func .now)) (s .args .r) (c .before .number .ensures ∙ s .pre .1 .0 .1 .word (s .args .r) (s .pre .1 .1 .1))
     (c .if1 .left) in
     (s .pre .0, ((h .0, s .pre .1 .1 .0), h .1))
 

@@ -1,7 +1,7 @@
--- Merge label 0 is the loop's exit (`first-at`), and the only other one is the exit of its body (`second-at`).
+-- Merge label 0 is the loop's exit (`first-label`), and the only other one is the exit of its body (`second-at`).
 use mathlib.Core.Path.{sym, _∙_}
 use Rattle.lifting.specs.Points.{nodeExit, regionExit}
-use Rattle.terminators.specs.Labels.{first-at, second-at}
+use Rattle.terminators.specs.Labels.{first-label, second-at}
 use borrow.Author.Needs.{needs}
 use Rattle.term_parts.proofs.loop_merge.Statement.{statement}
 use Rattle.term_parts.proofs.loop_merge.Tie as tie
@@ -9,7 +9,7 @@ use Rattle.term_parts.proofs.loop_merge.Tie as tie
 returns : tie.Need-returns
 returns c =
     let s = c .before .before in
-    c .node-end .ensures ∙ sym (first-at (nodeExit (s .args .n)) (regionExit (s .args .b)) (c .before .if1 .taken))
+    c .node-end .ensures ∙ sym (first-label (nodeExit (s .args .n)) (regionExit (s .args .b)) (c .before .if1 .taken))
 
 returns-2 : tie.Need-returns-2
 returns-2 c =

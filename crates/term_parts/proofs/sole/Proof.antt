@@ -1,8 +1,8 @@
--- Straight on the next point can be absorbed (`sole-straight`), behind a region without outputs the node's point can (`sole-join`,
+-- Straight on the next point can be absorbed (`sole-to`), behind a region without outputs the node's point can (`sole-join`,
 -- `sole-repeat`), and a ctrl line's as `line_sole` says; no other way out has such a target.
 use Rattle.func.specs.Decode.{funcOf}
 use Rattle.terminators.specs.Laws.{low-node}
-use Rattle.terminators.specs.Labels.{fits-as, sole-as, sole-join, sole-leave, sole-repeat, sole-select, sole-straight}
+use Rattle.terminators.specs.Labels.{fits-as, sole-as, sole-join, sole-leave, sole-repeat, sole-select, sole-to}
 use borrow.Author.Needs.{needs}
 use Rattle.term_parts.proofs.sole.Statement.{statement}
 use Rattle.term_parts.proofs.sole.Tie as tie
@@ -23,7 +23,7 @@ bare-requires-2 : tie.Need-bare-requires-2
 bare-requires-2 c κs = let k = c .before .before .before .before .before .pre in (k .tables, fits-as k (c .before .before .w4 .given .1) .1)
 
 returns : tie.Need-returns
-returns c = sole-straight (funcOf (c .before .before .before .before .args .func .now)) (c .before .w .given .1)
+returns c = sole-to (funcOf (c .before .before .before .before .args .func .now)) (c .before .w .given .1)
 
 returns-3 : tie.Need-returns-3
 returns-3 c = sole-as (funcOf (c .before .before .before .before .before .args .func .now)) (c .before .before .w2 .given .1) (c .line-sole .ensures)

@@ -3,7 +3,7 @@
 use mathlib.Core.Path.{refl, sym, ap, _∙_}
 use native.Mathlib.Omega.{arith}
 use Rattle.lifting.specs.Parts.{childrenOf, nodeOf}
-use Rattle.func.specs.Tables.{ctrlLine}
+use Rattle.func.specs.Tables.{ctrlLineOf}
 use Rattle.walk_points.specs.Numbers.{number-back}
 use Rattle.terminators.specs.declared.TermKind.{TermKind}
 use Rattle.terminators.specs.Kinds.{termOf}
@@ -64,7 +64,7 @@ returns c =
 returns-3 : tie.Need-returns-3
 returns-3 c =
     let s = c .before .before .before .before .before .before in
-    target-of (s .pre .0) (s .args .k) (s .pre .1) (ctrlLine (funcOf (s .args .func .now)) (c .before .before .before .w2 .given .0 .0) .1 .to)
+    target-of (s .pre .0) (s .args .k) (s .pre .1) (ctrlLineOf (funcOf (s .args .func .now)) (c .before .before .before .w2 .given .0 .0) .1 .to)
     (c .before .before .before .w2 .given .1) refl (c .before .target .ensures) (c .region-start .ensures)
 
 returns-5 : tie.Need-returns-5

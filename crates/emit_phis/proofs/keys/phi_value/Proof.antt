@@ -8,7 +8,7 @@ use Rattle.lifting.specs.Ast.{regionInput}
 use Rattle.func.specs.Tables.{item-low, node-outs, region-ins}
 use Rattle.walk_points.specs.Walk.{few-nodes}
 use Rattle.terminators.specs.Kinds.{asPoint}
-use Rattle.emit_lists.specs.Edges.{body-in, entry-in, input-in, output-in}
+use Rattle.emit_lists.specs.Edges.{body-in, entry-region-in, input-in, output-in}
 use Rattle.emit_phis.proofs.Steps.{key-here}
 use Rattle.emit_phis.proofs.keys.phi_value.Statement.{statement}
 use Rattle.emit_phis.proofs.keys.phi_value.Tie as tie
@@ -17,14 +17,14 @@ cast-t11 : tie.Need-cast-t11
 cast-t11 c =
     let a = c .before .before .before .before .before .before .args in
     let p = c .before .before .before .before .before .before .pre in
-    let x = entry-in (p .0) (a .i) (p .1 .0) (a .j) (p .1 .1) (ap asPoint (sym (c .before .p .given .1)) ∙ c .before .before .before .point .ensures) in
+    let x = entry-region-in (p .0) (a .i) (p .1 .0) (a .j) (p .1 .1) (ap asPoint (sym (c .before .p .given .1)) ∙ c .before .before .before .point .ensures) in
     omega (arith, x .0, p .0 .walkable .named .few)
 
 cast-t12 : tie.Need-cast-t12
 cast-t12 c =
     let a = c .before .before .before .before .before .before .args in
     let p = c .before .before .before .before .before .before .pre in
-    let x = entry-in (p .0) (a .i) (p .1 .0) (a .j) (p .1 .1) (ap asPoint (sym (c .before .p .given .1)) ∙ c .before .before .before .point .ensures) in
+    let x = entry-region-in (p .0) (a .i) (p .1 .0) (a .j) (p .1 .1) (ap asPoint (sym (c .before .p .given .1)) ∙ c .before .before .before .point .ensures) in
     omega (arith, item-low (region-ins (p .0 .tables) _ (x .0)) (a .j) (x .1))
 
 node-child-requires : tie.Need-node-child-requires

@@ -7,8 +7,8 @@ use native.Mathlib.Omega.{arith}
 use lib.ListN.{getD}
 use Rattle.func.specs.Decode.{funcOf}
 use Rattle.work.specs.Layout.{labelIdsAt}
-use Rattle.walk_points.specs.Numbers.{number-low}
-use Rattle.emit_edges.specs.Ends.{headAt}
+use Rattle.walk_points.specs.Numbers.{point-low}
+use Rattle.emit_edge_ends.specs.Ends.{headAt}
 use Rattle.emit_insts.specs.Ready.{label-at, ready-visited}
 use Rattle.emit_phis.specs.Along.{head-small}
 use Rattle.emit_phis.proofs.Steps.{head-number}
@@ -27,7 +27,7 @@ label-of-requires c κs =
     let p = c .before .before .before .pre in
     let F = funcOf (a .func .now) in
     let s = head-small (ready-visited (p .0) (a .p) (p .1 .0)) (a .p) (p .1 .0) in
-    (omega (arith, c .number .ensures, head-number (p .0) (a .p) (p .1 .0) (p .1 .1), number-low (headAt F (a .p)) s), omega (arith, p .0 .laid .size))
+    (omega (arith, c .number .ensures, head-number (p .0) (a .p) (p .1 .0) (p .1 .1), point-low (headAt F (a .p)) s), omega (arith, p .0 .laid .size))
 
 returns : tie.Need-returns
 returns c =

@@ -4,7 +4,7 @@ use mathlib.Core.Path.{_≡_, ap}
 use Prim.Native.Nat.{ℕ, _+_, _*_, _≤_}
 use native.Mathlib.Omega.{arith}
 use lib.ListN.{length}
-use Rattle.emit_edges.specs.Links.{chain, chain-none}
+use Rattle.emit_edge_ends.specs.Links.{chain, chain-none}
 use Rattle.emit_phis.proofs.pairs.pair_words.Statement.{statement}
 use Rattle.emit_phis.proofs.pairs.pair_words.Tie as tie
 

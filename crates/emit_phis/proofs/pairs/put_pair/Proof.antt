@@ -7,7 +7,7 @@ use Prim.Native.Nat.{ℕ}
 use native.Mathlib.Omega.{arith}
 use Rattle.func.specs.Decode.{funcOf}
 use Rattle.lifting_runs.specs.Refers.{Named}
-use Rattle.emit_ids.specs.Ids.{idIn}
+use Rattle.emit_names.specs.Ids.{idIn}
 use Rattle.emit_words.specs.Put.{id, put-more, put-same}
 use Rattle.emit_insts.specs.Ready.{ready-visited}
 use Rattle.emit_phis.specs.Along.{origin-kept}

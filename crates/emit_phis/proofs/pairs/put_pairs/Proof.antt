@@ -8,8 +8,8 @@ use Rattle.func.specs.Decode.{funcOf}
 use Rattle.general_laws.specs.Members.{In}
 use Rattle.terminators.specs.At.{pointAt}
 use Rattle.emit_words.specs.Put.{put-length, put-same}
-use Rattle.emit_edges.specs.Ends.{edgesInto}
-use Rattle.emit_edges.specs.Links.{rest-edge}
+use Rattle.emit_edge_ends.specs.Ends.{edgesInto}
+use Rattle.emit_edge_ends.specs.Links.{rest-edge}
 use Rattle.emit_phis.specs.Items.{pairIn}
 use Rattle.emit_phis.proofs.Steps.{Pairing, pairing-done, pairing-first, pairing-next, pairs-put, same-edge}
 use Rattle.emit_phis.proofs.pairs.put_pairs.Statement.{statement}

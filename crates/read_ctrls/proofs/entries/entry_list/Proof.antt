@@ -4,13 +4,13 @@ use mathlib.Core.Path.{_≡_, refl, _∙_}
 use Prim.Native.Nat.{_-_}
 use native.Mathlib.Omega.{arith}
 use lib.ListN.{length}
-use Rattle.lifting.specs.Grammar.{entries}
+use Rattle.lifting.specs.Grammar.{entriesCodec}
 use Rattle.read_cursor.specs.Answers.{stepOf}
 use Rattle.read_cursor.specs.Laws.{by-answer}
-use Rattle.read_lines.specs.Stores.{Along, along-first, along-end, along-kept, along-wrong}
-use Rattle.read_ctrls.specs.Judge.{keepEdge}
+use Rattle.read_lines.specs.Stores.{ListAlong, list-along-first, along-end, along-kept, along-wrong}
+use Rattle.check_edges.specs.Edges.{keepEdge}
 use Rattle.read_ctrls.specs.Tails.{entries-listing}
-use Rattle.read_ctrls.specs.Answers.{edgesAt}
+use Rattle.read_ctrls.specs.Answers.{edgesState}
 use Rattle.read_ctrls.proofs.Laws.{edgesLength, edges-met}
 use borrow.Author.Needs.{needs}
 use Rattle.read_ctrls.proofs.entries.entry_list.Statement.{statement}
@@ -18,7 +18,7 @@ use Rattle.read_ctrls.proofs.entries.entry_list.Tie as tie
 
 abbrev Inv-loop : tie.InvT-loop
 Inv-loop func₀ work₀ text line c₀ fit₀ func work c fit =
-    Along edgesLength entries (keepEdge line) text (c₀ .at) (edgesAt func₀ work₀ fit₀) (c .at) (edgesAt func work fit) × (length work ≡ length work₀)
+    ListAlong edgesLength entriesCodec (keepEdge line) text (c₀ .at) (edgesState func₀ work₀ fit₀) (c .at) (edgesState func work fit) × (length work ≡ length work₀)
 
 abbrev μ-loop : tie.MeasureT-loop
 μ-loop func₀ work₀ text line c₀ fit₀ func work c fit = length text - c .at
@@ -55,7 +55,7 @@ entry-list-spec =
     (tie.spec
     Inv-loop
     μ-loop
-    (λ c. (along-first, refl))
+    (λ c. (list-along-first, refl))
     (λ c κs. search needs)
     (λ c. search needs)
     (λ c. search needs)

@@ -2,9 +2,9 @@
 -- bracket (`exit-lists`).
 use mathlib.Core.Path.{refl, ap, _∙_}
 use Rattle.lifting.specs.Ast.{unreachable, return, branch, selectBranch, boolCond}
-use Rattle.read_cursor.specs.Heads.{controlRest}
-use Rattle.read_cursor.specs.declared.Control.{Control}
-use Rattle.read_cursor.specs.declared.Control.the-variants as ctrl
+use Rattle.read_insts.specs.Heads.{controlRest}
+use Rattle.read_insts.specs.declared.Control.{Control}
+use Rattle.read_insts.specs.declared.Control.the-variants as ctrl
 use Rattle.read_ctrls.proofs.Ranges.{plain-lists, inst-lists, exit-lists}
 use borrow.Author.Needs.{needs}
 use Rattle.read_ctrls.proofs.kinds.lists.Statement.{statement}

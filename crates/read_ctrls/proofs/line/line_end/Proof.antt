@@ -4,7 +4,7 @@ use mathlib.Core.Path.{ap, _∙_}
 use mathlib.Core.Bool.{_&&_}
 use Rattle.func.specs.Rows.{ctrlRowFrom}
 use Rattle.func.specs.Kinds.{ctrlKindNumber}
-use Rattle.read_ctrls.specs.Answers.{judgedWith}
+use Rattle.check_ctrls.specs.Judged.{judgedWith}
 use borrow.Author.Needs.{needs}
 use Rattle.read_ctrls.proofs.line.line_end.Statement.{statement}
 use Rattle.read_ctrls.proofs.line.line_end.Tie as tie

@@ -8,8 +8,8 @@ use Rattle.lifting.specs.Grammar.{ctrlLines}
 use Rattle.read_cursor.specs.Laws.{by-answer}
 use Rattle.read_lines.specs.Lines.{Going, going-first, going-more, going-over, going-wrong}
 use Rattle.read_ctrls.specs.Judge.{keepJudged, start}
-use Rattle.read_ctrls.specs.Tails.{ctrl-kind}
-use Rattle.read_ctrls.specs.Answers.{headOf, stateAt}
+use Rattle.read_ctrls.specs.Tails.{ctrl-line-kind}
+use Rattle.read_ctrls.specs.Answers.{headAnswer, stateAt}
 use Rattle.read_ctrls.proofs.Laws.{stateLength, line-met, line-number}
 use borrow.Author.Needs.{needs}
 use Rattle.read_ctrls.proofs.line.lines.Statement.{statement}
@@ -29,27 +29,27 @@ returns : tie.Need-returns Inv-loop μ-loop
 unfolding start
 returns c =
     let a = c .before .before .before .loop .inv in
-    let q = by-answer headOf (c .enum-told .given .1) (c .before .before .head .ensures) in
-    (going-over ctrl-kind (a .0) q, (a .0 .len, a .1))
+    let q = by-answer headAnswer (c .enum-told .given .1) (c .before .before .head .ensures) in
+    (going-over ctrl-line-kind (a .0) q, (a .0 .len, a .1))
 
 ctrl-line-requires : tie.Need-ctrl-line-requires Inv-loop μ-loop
 ctrl-line-requires c κs =
     let s = c .before .before .before .before .before .before .before .before .before .before in
     let a = c .before .before .before .before .before .before .loop .inv in
-    let q = by-answer headOf (c .before .before .before .h .given .1) (c .before .before .before .before .before .head .ensures) in
+    let q = by-answer headAnswer (c .before .before .before .h .given .1) (c .before .before .before .before .before .head .ensures) in
     (omega (arith, a .0 .len, s .pre .0), omega (arith, a .1, s .pre .1), omega (arith, a .2, q .moves .moved, q .moves .fits, s .pre .3))
 
 returns-2 : tie.Need-returns-2 Inv-loop μ-loop
 returns-2 c =
     let a = c .before .before .before .before .before .before .before .before .before .before .before .before .before .loop .inv in
-    let q = by-answer headOf (c .before .before .before .before .before .before .before .before .before .before .h .given .1) (c .before .before .before .before .before .before .before .before .before .before .before .before .head .ensures) in
+    let q = by-answer headAnswer (c .before .before .before .before .before .before .before .before .before .before .h .given .1) (c .before .before .before .before .before .before .before .before .before .before .before .before .head .ensures) in
     let l = c .before .before .before .before .before .before .ctrl-line in
     let s = line-met (l .last .0) (l .last .1 .0) (c .enum-told2 .given .1) (l .ensures .0) in
-    (going-wrong ctrl-kind (a .0) q s, (l .ensures .1 .0 ∙ a .0 .len, l .ensures .1 .1 ∙ a .1))
+    (going-wrong ctrl-line-kind (a .0) q s, (l .ensures .1 .0 ∙ a .0 .len, l .ensures .1 .1 ∙ a .1))
 
 loop-less : tie.Need-loop-less Inv-loop μ-loop
 loop-less c =
-    let q = by-answer headOf (c .before .before .before .before .before .before .before .before .before .before .before .h .given .1) (c .before .before .before .before .before .before .before .before .before .before .before .before .before .head .ensures) in
+    let q = by-answer headAnswer (c .before .before .before .before .before .before .before .before .before .before .before .h .given .1) (c .before .before .before .before .before .before .before .before .before .before .before .before .before .head .ensures) in
     let l = c .before .before .before .before .before .before .before .ctrl-line in
     let s = line-met (l .last .0) (l .last .1 .0) (c .before .j .given .1) (l .ensures .0) in
     omega (arith, q .moves .moved, s .moves .moved, s .moves .fits)
@@ -57,10 +57,10 @@ loop-less c =
 loop-again : tie.Need-loop-again Inv-loop μ-loop
 loop-again c =
     let a = c .before .before .before .before .before .before .before .before .before .before .before .before .before .before .loop .inv in
-    let q = by-answer headOf (c .before .before .before .before .before .before .before .before .before .before .before .h .given .1) (c .before .before .before .before .before .before .before .before .before .before .before .before .before .head .ensures) in
+    let q = by-answer headAnswer (c .before .before .before .before .before .before .before .before .before .before .before .h .given .1) (c .before .before .before .before .before .before .before .before .before .before .before .before .before .head .ensures) in
     let l = c .before .before .before .before .before .before .before .ctrl-line in
     let s = line-met (l .last .0) (l .last .1 .0) (c .before .j .given .1) (l .ensures .0) in
-    (going-more ctrl-kind (a .0) q s (l .ensures .1 .0), l .ensures .1 .1 ∙ a .1, omega (arith, a .2, line-number s, q .moves .moved, s .moves .moved))
+    (going-more ctrl-line-kind (a .0) q s (l .ensures .1 .0), l .ensures .1 .1 ∙ a .1, omega (arith, a .2, line-number s, q .moves .moved, s .moves .moved))
 
 pub lines-spec : {M : Type 1} → statement M
 lines-spec =

@@ -4,7 +4,7 @@ use Prim.Native.Nat.{_-_}
 use native.Mathlib.Omega.{arith}
 use lib.ListN.{length}
 use borrow.Author.Needs.{needs}
-use Rattle.read_cursor.specs.Laws.{Digits, number-past, number-low, number-high, number-zero, digits-first, digits-low, digits-high, digits-end, digits-over, digits-next}
+use Rattle.read_cursor.proofs.Laws.{Digits, number-past, number-low, number-high, number-zero, digits-first, digits-low, digits-high, digits-end, digits-over, digits-next}
 use Rattle.read_cursor.proofs.Cursor.number.Statement.{statement}
 use Rattle.read_cursor.proofs.Cursor.number.Tie as tie
 

@@ -1,15 +1,15 @@
--- A literal that is longer than the rest of the text is missed, and else the loop compares byte for byte. Its invariant (`Along`) says that what
+-- A literal that is longer than the rest of the text is missed, and else the loop compares byte for byte. Its invariant (`WordAlong`) says that what
 -- is left of the literal is to be read from where the loop stands; its measure is what is left of the literal.
 use Prim.Native.Nat.{_-_}
 use native.Mathlib.Omega.{arith}
 use lib.ListN.{length}
 use borrow.Author.Needs.{needs}
-use Rattle.read_cursor.specs.Laws.{Along, along-past, along-first, along-miss, along-next, along-done}
+use Rattle.read_cursor.specs.Laws.{WordAlong, along-past, word-along-first, along-miss, along-next, along-done}
 use Rattle.read_cursor.proofs.Cursor.word.Statement.{statement}
 use Rattle.read_cursor.proofs.Cursor.word.Tie as tie
 
 abbrev Inv-loop : tie.InvT-loop
-Inv-loop text s from i₀ i = Along s text from i
+Inv-loop text s from i₀ i = WordAlong s text from i
 
 abbrev μ-loop : tie.MeasureT-loop
 μ-loop text s from i₀ i = length s - i
@@ -21,7 +21,7 @@ returns-2 : tie.Need-returns-2 Inv-loop μ-loop
 returns-2 c = along-past _ (omega arith) (omega arith)
 
 loop-holds : tie.Need-loop-holds Inv-loop μ-loop
-loop-holds c = along-first (omega arith) (omega arith)
+loop-holds c = word-along-first (omega arith) (omega arith)
 
 returns-3 : tie.Need-returns-3 Inv-loop μ-loop
 returns-3 c = along-miss (c .before .before .before .before .loop .inv) (omega arith) (search needs)

@@ -3,15 +3,15 @@ use Prim.Native.Nat.{_-_}
 use lib.ListN.{length}
 use Rattle.read_cursor.specs.Answers.{stepOf}
 use Rattle.read_cursor.specs.Laws.{by-answer}
-use Rattle.read_lines.specs.Stores.{Along, along-first, along-kept, along-end, along-wrong, met}
-use Rattle.read_lines.specs.Elements.{keepElement, listOf, listing}
+use Rattle.read_lines.specs.Stores.{ListAlong, list-along-first, along-kept, along-end, along-wrong, met}
+use Rattle.read_lines.specs.Elements.{keepElement, elementList, listing}
 use Rattle.read_lines.specs.Laws.{less}
 use borrow.Author.Needs.{needs}
 use Rattle.read_lines.proofs.elements.list.Statement.{statement}
 use Rattle.read_lines.proofs.elements.list.Tie as tie
 
 abbrev Inv-loop : tie.InvT-loop
-Inv-loop func₀ text what c₀ func c = Along length (listOf what) (keepElement what) text (c₀ .at) func₀ (c .at) func
+Inv-loop func₀ text what c₀ func c = ListAlong length (elementList what) (keepElement what) text (c₀ .at) func₀ (c .at) func
 
 abbrev μ-loop : tie.MeasureT-loop
 μ-loop func₀ text what c₀ func c = length text - c .at
@@ -38,7 +38,7 @@ list-spec =
     (tie.spec
     Inv-loop
     μ-loop
-    (λ c. along-first)
+    (λ c. list-along-first)
     (λ c κs. search needs)
     (λ c. search needs)
     (λ c. search needs)

@@ -1,5 +1,5 @@
 -- The values are read behind their word, and the end of the line behind them (`last-stored`); where one of the three is missed the whole is.
-use Rattle.lifting.specs.Grammar.{sub, values}
+use Rattle.lifting.specs.Grammar.{sub, valuesCodec}
 use Rattle.read_lines.specs.Stores.{met}
 use Rattle.read_lines.specs.Laws.{as-sub, last-refused, last-stored}
 use borrow.Author.Needs.{needs}
@@ -9,12 +9,12 @@ use Rattle.read_lines.proofs.forms.out_form.Tie as tie
 returns : tie.Need-returns
 returns c =
     let p = met (c .enum-told .given .1) (c .before .before .before .before .form .ensures .0) in
-    (last-refused (sub "out" values) (as-sub "out" values p), search needs)
+    (last-refused (sub "out" valuesCodec) (as-sub "out" valuesCodec p), search needs)
 
 returns-2 : tie.Need-returns-2
 returns-2 c =
     let p = met (c .before .before .before .c .given .1) (c .before .before .before .before .before .before .before .form .ensures .0) in
-    (last-stored (sub "out" values) (as-sub "out" values p) (c .word .ensures), search needs)
+    (last-stored (sub "out" valuesCodec) (as-sub "out" valuesCodec p) (c .word .ensures), search needs)
 
 pub out-form-spec : {M : Type 1} → statement M
 out-form-spec =

@@ -1,12 +1,12 @@
 -- The loop's invariant: the children of the nodes from the i-th on are marked. The measure is i.
 use native.Mathlib.Omega.{arith}
 use borrow.Author.Needs.{needs}
-use Rattle.walk_roots.specs.Fill.{Nodes, nodes-first, nodes-next, nodes-done}
+use Rattle.walk_roots.specs.Fill.{NodesFilled, nodes-first, nodes-next, nodes-done}
 use Rattle.walk_roots.proofs.tables.mark_nodes.Statement.{statement}
 use Rattle.walk_roots.proofs.tables.mark_nodes.Tie as tie
 
 abbrev Inv-loop : tie.InvT-loop
-Inv-loop func work₀ i₀ work i = Nodes func work₀ i work
+Inv-loop func work₀ i₀ work i = NodesFilled func work₀ i work
 
 abbrev μ-loop : tie.MeasureT-loop
 μ-loop func work₀ i₀ work i = i

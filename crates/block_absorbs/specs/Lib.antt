@@ -1,0 +1,2 @@
+-- Where each visited point stands, and whether it absorbs the next one.
+pub mod Absorbs

@@ -1,0 +1,2 @@
+-- Use counts in the work slice.
+pub mod Uses

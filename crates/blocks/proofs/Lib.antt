@@ -1,2 +1,0 @@
-pub mod Counting
-pub mod Gluing

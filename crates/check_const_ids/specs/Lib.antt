@@ -1,0 +1,2 @@
+-- The test of const ids.
+pub mod Test

@@ -1,0 +1,2 @@
+-- What was judged of ctrl lines.
+pub mod Judged

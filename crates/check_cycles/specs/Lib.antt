@@ -1,0 +1,2 @@
+-- The search for a region that lies around itself.
+pub mod Stamps

@@ -1,0 +1,2 @@
+-- The edges of a ctrl line.
+pub mod Edges

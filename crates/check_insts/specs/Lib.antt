@@ -1,0 +1,2 @@
+-- The tests of an INST.
+pub mod Test

@@ -1,0 +1,3 @@
+-- Refusal 3.
+pub mod Both
+pub mod Limits

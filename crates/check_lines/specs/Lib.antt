@@ -1,0 +1,2 @@
+-- The tests of the numbers of lines.
+pub mod Test

@@ -1,0 +1,2 @@
+-- The rules of refusal 4.
+pub mod Test

@@ -1,0 +1,2 @@
+-- The test of a value.
+pub mod Test

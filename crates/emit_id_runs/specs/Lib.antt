@@ -1,0 +1,2 @@
+-- The ids of one visited point.
+pub mod Giving

@@ -1,0 +1,2 @@
+-- The ids of single names.
+pub mod Later

@@ -1,0 +1,2 @@
+-- Texts all of whose values have ids.
+pub mod Given

@@ -1,3 +1,0 @@
--- The list, and the answer of a function in its tables.
-pub mod Emit
-pub mod Listed

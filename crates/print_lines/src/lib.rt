@@ -1,0 +1,1 @@
+// The lines of kept blocks as bytes; all of it stands in specs/.

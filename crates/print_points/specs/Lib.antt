@@ -1,0 +1,2 @@
+-- What the work slice shows of the visited points.
+pub mod Shows

@@ -1,0 +1,2 @@
+-- How many bytes the programs print at most.
+pub mod Most

@@ -1,0 +1,2 @@
+-- What the readers of fields answer.
+pub mod Answers

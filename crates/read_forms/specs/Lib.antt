@@ -1,0 +1,2 @@
+-- The part of the text between two brackets.
+pub mod Form

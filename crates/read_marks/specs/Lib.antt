@@ -1,0 +1,2 @@
+-- Where a case ends in the bytes of a batch.
+pub mod Cut

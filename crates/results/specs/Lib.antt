@@ -1,0 +1,2 @@
+-- What a caller of the library is told by an answer.
+pub mod Told
