@@ -26,14 +26,14 @@ pub record RegionState (Val : Type 0) : Type 0 where
   pub todo : List Task
   pub mem : Mem Val Value
 
-abbrev pub calleeFunction : DataInstKind → Option ℕ
-calleeFunction (inst i) = none
-calleeFunction (call f) = some f
-calleeFunction (ext s n) = some s
+abbrev pub calleeId : DataInstKind → Option ℕ
+calleeId (inst i) = none
+calleeId (call f) = some f
+calleeId (ext s n) = some s
 
 -- how an op stands in the executed list
 abbrev pub executedOp : {Val : Type 0} → Op → List Val → Executed Val
-executedOp o vs = record { opcode = opOpcode (o .kind); attrs = o .attrs; type = o .type; imms = opImms (o .kind); callee = calleeFunction (o .kind); vals = vs }
+executedOp o vs = record { opcode = opOpcode (o .kind); attrs = o .attrs; type = o .type; imms = opImms (o .kind); callee = calleeId (o .kind); vals = vs }
 
 abbrev pub sets : {Val : Type 0} → List Value → List Val → Mem Val Value → Mem Val Value
 sets ks vs m = record { env = puts eqValue (m .env) ks vs; log = m .log }

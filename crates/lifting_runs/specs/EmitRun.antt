@@ -19,7 +19,7 @@ use Rattle.lifting.specs.Ids.{idOf, label, labelOf, names, newValues, value}
 use Rattle.lifting.specs.Instructions.{Instruction, bodyInsts, ifUsed, opInst, opOpcode, pairs, phiInst, phiInsts, resultId, termImms, termInst, termOpcode}
 use Rattle.lifting.specs.Machine.{Alike, Out, go, halt}
 use Rattle.lifting.specs.World.{End, Executed, Mem, World, exited, pick, put, puts, reading, reads}
-use Rattle.lifting.specs.RegionRun.{atFirst, calleeFunction, executedOp, setResult}
+use Rattle.lifting.specs.RegionRun.{atFirst, calleeId, executedOp, setResult}
 use Rattle.lifting.specs.BlockRun.{BlockState, blockLog, blockStep, comeIn, doInsts, executeInst, goNth, goTo, headId, isKind, labelsAmong, operandsIn, otherWay, pairOf, pairsFor, results, runOf, selectionOf, setId, tailIds, wayBy, wayOut}
 use Rattle.general_laws.specs.Members.{All, In, all-in, here, in-getD, in-map, in-right, map-in, tabulate-all, there}
 use Rattle.general_laws.specs.Tests.{find-in}
@@ -187,7 +187,7 @@ module _ (F : Func) (first : ℕ) (T K : Table) where
     called k = eqb (opOpcode k) (opcodeOf FunctionCall) || eqb (opOpcode k) (opcodeOf ExtInst)
 
     call-ids : (k : DataInstKind) (l : List ℕ) → FreeOp k → (cond (called k) (tailIds (calleeIds k ++ l)) (calleeIds k ++ l) ≡ l)
-        × (cond (called k) (headId (calleeIds k ++ l)) none ≡ calleeFunction k)
+        × (cond (called k) (headId (calleeIds k ++ l)) none ≡ calleeId k)
     call-ids (inst i) l h = rw (free-kind (i .opcode) FunctionCall h) (rw (free-kind (i .opcode) ExtInst h) (refl, refl))
     call-ids (call f) l h = (refl, refl)
     call-ids (ext s n) l h = (refl, refl)
