@@ -100,15 +100,18 @@ fn judge(library: &mut Library, case: &[u8]) -> Result<String, String> {
             if length > MAX_WORDS {
                 return Err(format!("a list of {length} words"));
             }
-            for lengths in [[full; 3], [more, full, length], [full, more, length - 1]] {
+            // With room for any list it may be written without being counted first.
+            let any = [full, full, MAX_WORDS];
+            for lengths in [[full; 3], any, [more, full, length], [full, more, length - 1]] {
                 library.lift(text, first, lengths, &expected)?;
             }
             let longer = "longer lists equal, refused with 11 for 16,384 words";
             Ok(if length > full { longer } else { LIST }.to_owned())
         }
         Expected::Refused(number) => {
-            library.lift(text, first, [full; 3], &expected)?;
-            library.lift(text, first, [more, full, 0], &expected)?;
+            for lengths in [[full; 3], [full, full, MAX_WORDS], [more, full, 0]] {
+                library.lift(text, first, lengths, &expected)?;
+            }
             Ok(format!("refused {number:2}"))
         }
     }
