@@ -197,6 +197,8 @@ class Function:
                             return ".".join([f"c.{new}.new", muts[k]] + tail)
                     return ".".join([head] + rest[1:])
                 return f"c.{new}"
+        if s.endswith("_law"):
+            return self.path([s[:-4]] + rest, at)
         if s in ("ranges", "type_inv", "utf8", "auto", "lifetimes"):
             return ".".join(["c"] + segs)
         self.note(f"no step {s} above {at}")
@@ -299,6 +301,36 @@ def uses(head_lines, text, extra):
     return out + extra
 
 
+def align(args, needs, decls):
+    """Where some goals of the older form are gone: the argument of each goal that there is, by the names that signatures say."""
+    out = ["(λ c. search rules)"] * len(needs)
+    where = {norm(o): i for i, (o, n) in enumerate(needs)}
+    known = []
+    for j, a in enumerate(args):
+        if a in decls:
+            sig = " ".join(l for l in decls[a] if not l.startswith("--"))
+            m = re.search(r"tie\.Need-([\w-]+)", sig)
+            if m and norm(m.group(1)) in where:
+                known.append((j, where[norm(m.group(1))]))
+                out[where[norm(m.group(1))]] = a
+            # else the goal is gone
+        elif "search rules" not in a or len(a) > 30:
+            known.append((j, None))
+    for k, (j, i) in enumerate(known):
+        if i is None:
+            before = next(((jj, ii) for jj, ii in reversed(known[:k]) if ii is not None), (-1, -1))
+            after = next(((jj, ii) for jj, ii in known[k + 1:] if ii is not None), (len(args), len(needs)))
+            if j - before[0] == 1 and before[1] + 1 < after[1]:
+                out[before[1] + 1] = args[j]
+            elif after[0] - j == 1 and after[1] - 1 > before[1]:
+                out[after[1] - 1] = args[j]
+            elif after[0] - before[0] == after[1] - before[1]:
+                out[before[1] + j - before[0]] = args[j]
+            else:
+                return None
+    return out
+
+
 def convert(crate_dir, crate, rel, info, signatures, said):
     folder = os.path.join(crate_dir, "proofs", rel)
     p = os.path.join(folder, "Proof.antt")
@@ -358,10 +390,13 @@ def convert(crate_dir, crate, rel, info, signatures, said):
     args = balanced(body[:k])
     needs = info["needs"]
     loops = info["loops"]
-    n_front = len(args) - len(needs)
-    if n_front != 2 * len(loops) and n_front != len(loops):
-        said.append(f"{crate}/{rel}: {len(args)} arguments, {len(needs)} needs, {len(loops)} loops")
-        return False
+    n_front = sum(1 for a in args if a in decls and re.search(r"tie\.(invariant|decreases)-", decls[a][next(i for i, l in enumerate(decls[a]) if not l.startswith("--"))]))
+    if len(args) - n_front != len(needs):
+        aligned = align(args[n_front:], needs, decls)
+        if aligned is None:
+            said.append(f"{crate}/{rel}: {len(args)} arguments, {len(needs)} needs, {n_front} invariants, not aligned")
+            return False
+        args = args[:n_front] + aligned
     used, answers, inv = set(), [], []
     used.add(order[-1])
     # invariants and measures, by their own names
