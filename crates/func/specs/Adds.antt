@@ -117,9 +117,9 @@ adds_many k [] r l h = adds_same (adds_none r) (λ j. nothing j (eqb k j) refl)
     nothing : (j : ℕ) (b : Bool) → eqb k j ≡ b → ◌≡◌ {A = List (List ℕ)} [] (into_pool k [] j)
     nothing j true q = sym (into_here k j [] q)
     nothing j false q = sym (into_else k j [] q)
-adds_many k (e ∷ es) r l h =
+adds_many {w = w} k (e ∷ es) r l h =
     let a = adds_push k e r l h.0 in
-    adds_same (adds_then a (adds_many k es (ready_after r a) l h.1)) (λ j. both j (eqb k j) refl)
+    adds_same (adds_then a (adds_many {w = push k e w} k es (ready_after r a) l h.1)) (λ j. both j (eqb k j) refl)
   where
     both : (j : ℕ) (b : Bool) → eqb k j ≡ b → into_pool k (e ∷ []) j ++ into_pool k es j ≡ into_pool k (e ∷ es) j
     both j true q = rw (into_here k j (e ∷ []) q, into_here k j es q, into_here k j (e ∷ es) q)

@@ -97,10 +97,10 @@ pub adds_cells : {w : List ℕ} (cs : List Cell) → proper cs ≡ true → Wide
 unfolding keep_cells
 adds_cells [] e h r = adds_same (adds_none r) (λ j. unfold gained in refl)
 adds_cells (num n ∷ cs) e h r = adds_same (adds_cells cs (unfold proper in e) h r) (λ j. unfold gained in refl)
-adds_cells (run p es ∷ cs) e h r =
+adds_cells {w = w} (run p es ∷ cs) e h r =
     let q = proper_parts p es cs e in
     let a = adds_many p es r q.0 h.0 in
-    adds_same (adds_then a (adds_cells cs q.2 h.1 (ready_after r a))) (λ j. joined j q.1 (eqb p j) refl)
+    adds_same (adds_then a (adds_cells {w = folds (push p) es w} cs q.2 h.1 (ready_after r a))) (λ j. joined j q.1 (eqb p j) refl)
   where
     joined : (j : ℕ) → fresh_pool p cs ≡ true → (b : Bool) → eqb p j ≡ b → into_pool p es j ++ gained cs j ≡ gained (run p es ∷ cs) j
     joined j f true q =

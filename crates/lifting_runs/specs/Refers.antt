@@ -1,5 +1,5 @@
 -- Refusal 4 as facts: what each reference of a text names, where the test runs over all of the text's lines of a kind. Assumes nothing.
-use Rattle.std.specs.Prelude.{◌≡◌, refl, true, ◌&&◌, List, ◌++◌, map, ℕ, ◌<◌, ◌≤◌, leb, ltb, length}
+use Rattle.std.specs.Prelude.{◌≡◌, refl, true, ◌&&◌, List, ◌∷◌, ◌++◌, map, ℕ, ◌<◌, ◌≤◌, leb, ltb, length}
 use Rattle.std.proofs.Math.Option.{some}
 use Rattle.std.proofs.Math.Decide.{ℕ_discrete}
 use Rattle.std.proofs.Common.{arith, leb-true, ltb-true}
@@ -80,7 +80,7 @@ refers F e =
       nodes_below = every_all _ _ (λ n t. ltb-true n (length F.nodes) t) (node_list F) nodes_named.1;
       ops_below = every_all _ _ (λ i t. ltb-true i (length F.ops) t) (op_list F) ops_named.1;
       children_below = all_line _ children_of F.nodes regions_below.0 _ refl;
-      targets_below = λ r {c} f. (all_split _ c.to (keys c.vals) (all_entry ℕ_discrete _ _ F.ctrls regions_below.1 r f).1).0;
+      targets_below = λ r {c} f. (all_split _ c.to (keys c.vals) (all_entry ℕ_discrete (λ s. s < length F.regions) (λ (d : ℕ × ControlInst). d.0 ∷ (d.1.to ++ keys d.1.vals)) F.ctrls regions_below.1 r f).1).0;
       ids_above = every_all (ltb 0) _ (ltb-true 0) (required_ids F) ids_given.1;
       consts_once = distinct_once (map (λ (c : Const). c.id) F.consts) consts_differ.1;
       node_control_law = all_at (λ (d : Node). node_control d ≤ max_control) F.nodes (every_all control_holds _ (λ d t. leb-true (node_control d) max_control t) F.nodes controls_hold.1) _ (omega arith);

@@ -64,8 +64,8 @@ module _ {S T H L : Type 0} (step_s : S → Out S H) (log_s : S → L) (step_t :
       let z = quiet_after step_t log_t r (suc w.0) in
       (z.0, ap log_t (z.1 ∙ after_go step_t log_t w.0 f) ∙ w.1 ∙ ap log_s (sym (after_go step_s log_s k e)))
   reach_by_quiet (suc k) rest r l (both_halt h e f) ih = (0, sym l ∙ ap log_s (sym (after_halt step_s log_s (suc k) e)))
-  reach_by_quiet (suc k) (tick e g q) r l m ih =
-      let w = reach_by_quiet k q r (g ∙ l) m (λ m h. ih m (omega arith)) in
+  reach_by_quiet {s = s} {s_next = s_next} {t = t} {t_next = t_next} (suc k) (tick {t = t'} e g q) r l m ih =
+      let w = reach_by_quiet {s = t'} {s_next = s_next} {t = t} {t_next = t_next} k q r (g ∙ l) m (λ m h. ih m (omega arith)) in
       (w.0, w.1 ∙ ap log_s (sym (after_go step_s log_s k e)))
 
   end_by_quiet : {s s_next : S} {t t_next : T} (h : H) (k : ℕ) → Quiet step_s log_s s s_next → Quiet step_t log_t t t_next → log_s s ≡ log_t t

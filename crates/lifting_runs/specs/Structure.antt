@@ -255,7 +255,8 @@ module _ (F : Func) {Val : Type 0} (W : World Val) (B : CfgPoint → BlockLiftin
         let lap : List Val → Out (RegionState Val) (End Val) = λ ws. go (to_do (nodes_then F W b k) (sets (ins_keys F b) ws m)) in
         let two : (x : Bool) → MeetOut LinkedStates (cond x (reading (reads m.env outs) lap) (go (to_do (map node ns ++ K) m)))
         (jump F W B t (get_or t.targets (cond x 0 1) (region_entry 0)) m)
-        = λ x. elim x [
+        = λ x. elim x as (λ z. MeetOut LinkedStates (cond z (reading (reads m.env outs) lap) (go (to_do (map node ns ++ K) m)))
+        (jump F W B t (get_or t.targets (cond z 0 1) (region_entry 0)) m)) [
           | true ↦ subst (λ (y : Out (PointState Val) (End Val)). MeetOut LinkedStates (reading (reads m.env outs) lap) y) (sym back)
               (meet_reading LinkedStates (reads m.env outs) _ _
               (λ vs. out_go (linked [] (node_entry n) (nodes_then F W b k) (sets (ins_keys F b) vs m) (after_loop vr sf e tl) (consts_rin F W m b (length (region_of F b).ins) vs cm))))
