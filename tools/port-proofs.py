@@ -173,7 +173,7 @@ class Function:
                     for field, step, path in sorted(arm[2], key=lambda e: -len(e[2])):
                         if norm(step) == norm(s) and [norm(x) for x in rest[:len(path)]] == [norm(x) for x in path]:
                             tail = rest[len(path):]
-                            if path == [] and field.endswith("-own"):
+                            if path == [] and field.endswith("-own") and not tail:
                                 continue
                             return ".".join(["c", arm[0], field] + tail)
                 if rest:

@@ -9,4 +9,4 @@ pub returns-in-0 : goal.returns-in-0
 returns-in-0 c = c.opcode_fits.ensures ∙ ap (λ (k : ℕ). op_inst_test k c.args.a) (sym c.in-0.is)
 
 pub returns-in_default : goal.returns-in_default
-returns-in_default c = op_inst_rest c.args.kind c.args.a c.in_default.rest.1
+returns-in_default c = op_inst_rest c.args.kind c.args.a c.in_default.in_default-own.rest.1

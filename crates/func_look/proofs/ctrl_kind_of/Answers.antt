@@ -18,4 +18,4 @@ pub returns-in-4 : goal.returns-in-4
 returns-in-4 c = rw c.in-4.is
 
 pub returns-in_default : goal.returns-in_default
-returns-in_default c = ctrl_rest_law c.args.k c.in_default.rest.0.0.0.0.1 c.in_default.rest.0.0.0.1 c.in_default.rest.0.0.1 c.in_default.rest.0.1 c.in_default.rest.1
+returns-in_default c = ctrl_rest_law c.args.k c.in_default.in_default-own.rest.0.0.0.0.1 c.in_default.in_default-own.rest.0.0.0.1 c.in_default.in_default-own.rest.0.0.1 c.in_default.in_default-own.rest.0.1 c.in_default.in_default-own.rest.1

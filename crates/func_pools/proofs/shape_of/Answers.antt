@@ -68,5 +68,5 @@ returns-in-12 c = shaped c.args.k 12 c.in-12.is
 pub returns-in_default : goal.returns-in_default
 unfolding base width room pool_of pools shapes lay
 returns-in_default c =
-    let h : 13 ≤ c.args.k = past c.args.k 12 (past c.args.k 11 (past c.args.k 10 (past c.args.k 9 (past c.args.k 8 (past c.args.k 7 (past c.args.k 6 (past c.args.k 5 (past c.args.k 4 (past c.args.k 3 (past c.args.k 2 (past c.args.k 1 (past c.args.k 0 (omega arith) c.in_default.rest.0.0.0.0.0.0.0.0.0.0.0.0.1) c.in_default.rest.0.0.0.0.0.0.0.0.0.0.0.1) c.in_default.rest.0.0.0.0.0.0.0.0.0.0.1) c.in_default.rest.0.0.0.0.0.0.0.0.0.1) c.in_default.rest.0.0.0.0.0.0.0.0.1) c.in_default.rest.0.0.0.0.0.0.0.1) c.in_default.rest.0.0.0.0.0.0.1) c.in_default.rest.0.0.0.0.0.1) c.in_default.rest.0.0.0.0.1) c.in_default.rest.0.0.0.1) c.in_default.rest.0.0.1) c.in_default.rest.0.1) c.in_default.rest.1 in
+    let h : 13 ≤ c.args.k = past c.args.k 12 (past c.args.k 11 (past c.args.k 10 (past c.args.k 9 (past c.args.k 8 (past c.args.k 7 (past c.args.k 6 (past c.args.k 5 (past c.args.k 4 (past c.args.k 3 (past c.args.k 2 (past c.args.k 1 (past c.args.k 0 (omega arith) c.in_default.in_default-own.rest.0.0.0.0.0.0.0.0.0.0.0.0.1) c.in_default.in_default-own.rest.0.0.0.0.0.0.0.0.0.0.0.1) c.in_default.in_default-own.rest.0.0.0.0.0.0.0.0.0.0.1) c.in_default.in_default-own.rest.0.0.0.0.0.0.0.0.0.1) c.in_default.in_default-own.rest.0.0.0.0.0.0.0.0.1) c.in_default.in_default-own.rest.0.0.0.0.0.0.0.1) c.in_default.in_default-own.rest.0.0.0.0.0.0.1) c.in_default.in_default-own.rest.0.0.0.0.0.1) c.in_default.in_default-own.rest.0.0.0.0.1) c.in_default.in_default-own.rest.0.0.0.1) c.in_default.in_default-own.rest.0.0.1) c.in_default.in_default-own.rest.0.1) c.in_default.in_default-own.rest.1 in
     shaped c.args.k 13 (omega (arith, c.requires))

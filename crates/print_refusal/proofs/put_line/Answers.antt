@@ -14,4 +14,4 @@ returns-in-Function c = put_bytes_same c.put_bytes.ensures (sym (ap line_of c.in
 
 pub returns-in-Refused : goal.returns-in-Refused
 unfolding line_of
-returns-in-Refused c = put_bytes_same (put_bytes_more c.put_number-n.ensures c.put_byte.ensures) (ap (λ (k : ℕ). digits k ++ bytes "\c") c.number.ensures ∙ sym (ap line_of c.in-Refused.is))
+returns-in-Refused c = put_bytes_same (put_bytes_more c.put_number-n.ensures c.put_byte.ensures) (ap (λ (k : ℕ). digits k ++ bytes "\n") c.number.ensures ∙ sym (ap line_of c.in-Refused.is))
