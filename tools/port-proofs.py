@@ -230,7 +230,8 @@ class Function:
             segs = alias[head] + [x for x in tail.split(".") if x and x != "before"]
             return self.path(segs, at)
 
-        return PATH.sub(one, body)
+        pieces = re.split(r'("(?:[^"\\]|\\.)*")', body)
+        return "".join(x if i % 2 else PATH.sub(one, x) for i, x in enumerate(pieces))
 
     def as_record(self, body, fields):
         """The last term of the lets, a tuple, as a record of the clauses' names."""
@@ -399,6 +400,25 @@ def convert(crate_dir, crate, rel, info, signatures, said):
         args = args[:n_front] + aligned
     used, answers, inv = set(), [], []
     used.add(order[-1])
+    # helpers over a step of the older form: a typed let in each answer that uses them
+    shared = {}
+    for name in order[:-1]:
+        txt = "\n".join(l for l in decls[name] if not l.startswith("--"))
+        m = re.match(rf"{re.escape(name)} *: *\((\w+) : tie\.[^)]*\)\s*→\s*(.*?)\n(unfolding [^\n]*\n)?{re.escape(name)} (\w+)( κs)? ?=\s*(.*)$", txt, re.S)
+        if m:
+            shared[name] = (m.group(1), m.group(2), (m.group(3) or "").strip(), m.group(4), m.group(6))
+            used.add(name)
+
+    def with_shared(b, root):
+        """The helpers that a term uses, in their order, as (name, type, body), and the term."""
+        wanted, todo = [], [b]
+        while todo:
+            x = todo.pop()
+            for n in shared:
+                if n not in wanted and re.search(rf"(?<![\w'.-]){re.escape(n)} \(?{NAME}", x):
+                    wanted.append(n)
+                    todo.append(shared[n][4])
+        return [n for n in shared if n in wanted]
     # invariants and measures, by their own names
     for name in args[:n_front]:
         name = name.strip()
@@ -495,6 +515,17 @@ def convert(crate_dir, crate, rel, info, signatures, said):
                 b, tail = b[:w], b[w:]
                 tail = fn.turn(tail, at[0], params[0])
             nb = fn.turn(b, at[0], params[0]).strip()
+            mine = with_shared(b, params[0])
+            if mine:
+                lets = ""
+                for n in mine:
+                    r1, ty, un, r2, hb = shared[n]
+                    lets += f"let {n} : {fn.turn(ty, at[0], r1).strip()} = {fn.turn(hb, at[0], r2).strip()} in\n    "
+                    if un and un not in unf:
+                        unf = (unf + " " + un.replace("unfolding ", "")) if unf else un
+                nb = lets + nb
+                for n in mine:
+                    nb = re.sub(rf"(?<![\w'.-])({re.escape(n)}) c(?![\w'.-])", r"\1", nb)
             if fields and len(fields) > 1:
                 nb = fn.as_record(nb, fields)
                 if nb is None:

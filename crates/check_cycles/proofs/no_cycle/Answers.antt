@@ -10,22 +10,21 @@ use Rattle.check_marks.specs.Test.{parent_in, acyclic}
 use Rattle.check_cycles.proofs.Laws.{around_own, table_low, table_acyclic}
 use Rattle.check_cycles.proofs.no_cycle.Goals as goal
 
--- the table fits
-room : (c : tie.After-clear-arg) → c.before.wide.result ≤ length c.before.before.before.before.before.args.work.now
-room c = let s = c.before.before.before.before.before in omega (arith, c.before.wide.ensures, c.before.before.count.ensures, s.requires.0.safe.region_room, s.requires.1)
-
 pub count-requires : goal.count-requires
 count-requires c = (c.requires.lists_whole.safe.size, lit< tt)
 
 pub clear-requires : goal.clear-requires
-clear-requires c = (omega arith, room c)
+clear-requires c =
+    let room : c.wide-n.result ≤ length c.args.work.now = omega (arith, c.wide-n.ensures, c.count.ensures, c.requires.lists_whole.safe.region_room, c.requires.work_need_in_bounds) in
+    (omega arith, room)
 
 pub adopt_all-requires : goal.adopt_all-requires
 adopt_all-requires c = record { lists_whole = c.requires.lists_whole; n_value = (c.wide-n.ensures ∙ c.count.ensures, omega (arith, c.requires.work_need_in_bounds, c.clear.ensures.work_len_unchanged)) }
 
 pub clear_stamps-requires : goal.clear_stamps-requires
 clear_stamps-requires c =
-    let h = room c in (
+    let room : c.wide-n.result ≤ length c.args.work.now = omega (arith, c.wide-n.ensures, c.count.ensures, c.requires.lists_whole.safe.region_room, c.requires.work_need_in_bounds) in
+    let h = room in (
       omega (arith, c.wide-n.ensures, c.count.ensures, c.requires.lists_whole.safe.region_room),
       omega (arith, c.requires.work_need_in_bounds, c.adopt_all.ensures.work_len_unchanged, c.clear.ensures.work_len_unchanged),
       table_low c.args.func.now c.wide-n.result c.clear.new.work c.adopt_all.new.1.1.0 (omega (arith, c.clear.ensures.work_len_unchanged)) (λ x h. c.clear.ensures.cleared.blank x (omega arith) h) c.adopt_all.ensures.work_after,
@@ -39,7 +38,8 @@ shape_of-work c = c.none_around.ensures.work_len_unchanged ∙ c.clear_stamps.en
 
 pub returns : goal.returns
 returns c =
-    let h = room c in
+    let room : c.wide-n.result ≤ length c.args.work.now = omega (arith, c.wide-n.ensures, c.count.ensures, c.requires.lists_whole.safe.region_room, c.requires.work_need_in_bounds) in
+    let h = room in
     record { value = c.none_around.ensures.value
           ∙ table_acyclic c.args.func.now c.wide-n.result c.clear.new.work c.adopt_all.new.1.1.0 (omega (arith, c.clear.ensures.work_len_unchanged)) (λ x h. c.clear.ensures.cleared.blank x (omega arith) h) c.adopt_all.ensures.work_after c.clear_stamps.new.work c.clear_stamps.ensures.stamped.same
           ∙ ap (λ c.wide-n. acyclic (parent_in c.args.func.now c.wide-n) c.wide-n) (c.wide-n.ensures ∙ c.count.ensures); work_len_unchanged = c.none_around.ensures.work_len_unchanged ∙ c.clear_stamps.ensures.work_len_unchanged ∙ c.adopt_all.ensures.work_len_unchanged ∙ c.clear.ensures.work_len_unchanged }

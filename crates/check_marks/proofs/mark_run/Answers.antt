@@ -8,29 +8,28 @@ use Rattle.func.specs.Tables.{Within}
 use Rattle.check_marks.specs.Marks.{mark_all, mark_turn, mark_done, numbers_first, numbers_done}
 use Rattle.check_marks.proofs.mark_run.Goals as goal
 
--- entry at + i may be read, and names a word
-reads_in : (c : tie.In-loop invariant-loop decreases-loop) → Within c.before.before.before.before.args.k c.before.before.before.before.args.func.now (c.before.before.before.before.args.at + c.before.loop.i)
-reads_in c = c.before.before.before.before.requires.read _ (omega arith) (omega arith)
-
-low : (c : tie.After-row-ref invariant-loop decreases-loop) → c.row-ref.result < length c.before.before.loop.work
-low c =
-    let s = c.before.before.before.before.before in
-    omega (arith, c.row-ref.ensures, s.requires.low (s.args.at + c.before.before.loop.i) (omega arith) (omega arith))
-
 pub loop-i-init : goal.loop-i-init
 loop-i-init c = (omega arith, refl, ap (λ l. mark_all l c.args.v c.args.work.now) (numbers_first c.args.k c.args.func.now c.args.at (c.args.at + 0) c.args.n (omega arith)))
 
 pub overflow_add-at : goal.overflow_add-at
-overflow_add-at c = omega (arith, (reads_in c).below, (reads_in c).ranges, entry_room_law c.args.k, (inside c.args.k (reads_in c).pool).room)
+overflow_add-at c =
+    let reads_in : Within c.args.k c.args.func.now (c.args.at + c.loop-i.i) = c.requires.read _ (omega arith) (omega arith) in
+    omega (arith, (reads_in).below, (reads_in).ranges, entry_room_law c.args.k, (inside c.args.k (reads_in).pool).room)
 
 pub row_ref-x-requires : goal.row_ref-x-requires
-row_ref-x-requires c = record { within = reads_in c; k_nonzero = c.requires.first }
+row_ref-x-requires c =
+    let reads_in : Within c.args.k c.args.func.now (c.args.at + c.loop-i.i) = c.requires.read _ (omega arith) (omega arith) in
+    record { within = reads_in; k_nonzero = c.requires.first }
 
 pub offset_bounds-work-x : goal.offset_bounds-work-x
-offset_bounds-work-x c = omega (arith, low c)
+offset_bounds-work-x c =
+    let low : c.row_ref-x.result < length c.loop-i.work = omega (arith, c.row_ref-x.ensures, c.requires.low (c.args.at + c.loop-i.i) (omega arith) (omega arith)) in
+    omega (arith, low)
 
 pub bounds-work-x : goal.bounds-work-x
-bounds-work-x c = low c
+bounds-work-x c =
+    let low : c.row_ref-x.result < length c.loop-i.work = omega (arith, c.row_ref-x.ensures, c.requires.low (c.args.at + c.loop-i.i) (omega arith) (omega arith)) in
+    low
 
 pub loop-i-preserved : goal.loop-i-preserved
 loop-i-preserved c =

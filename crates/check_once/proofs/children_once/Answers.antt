@@ -12,10 +12,6 @@ use Rattle.check_marks.specs.Fit.{fit_over}
 use Rattle.check_once.proofs.Laws.{fresh_refs_zero, child_not, child_is}
 use Rattle.check_once.proofs.children_once.Goals as goal
 
--- no more children than regions
-counts : (c : tie.Else1) → count child_refs c.before.before.before.before.before.args.func.now ≤ count regions c.before.before.before.before.before.args.func.now
-counts c = omega (arith, c.if1.false, c.before.count2.ensures, c.before.before.count.ensures)
-
 pub count-n-requires : goal.count-n-requires
 count-n-requires c = (c.requires.tree_safe.size, lit< tt)
 
@@ -41,16 +37,19 @@ pub bounds-work-0 : goal.bounds-work-0
 bounds-work-0 c = omega (arith, c.clear.ensures.work_len_unchanged, c.requires.work_need_in_bounds)
 
 pub one_parent-requires : goal.one_parent-requires
-one_parent-requires c = record { tree_safe = c.requires.tree_safe; func_bound = (omega (arith, counts c, c.requires.tree_safe.child_refs_law.low), simp length-set (omega (arith, c.requires.work_need_in_bounds, c.clear.ensures.work_len_unchanged))) }
+one_parent-requires c =
+    let counts : count child_refs c.args.func.now ≤ count regions c.args.func.now = omega (arith, c.if-n-c.false, c.count-c.ensures, c.count-n.ensures) in
+    record { tree_safe = c.requires.tree_safe; func_bound = (omega (arith, counts, c.requires.tree_safe.child_refs_law.low), simp length-set (omega (arith, c.requires.work_need_in_bounds, c.clear.ensures.work_len_unchanged))) }
 
 pub shape_of-work : goal.shape_of-work
 shape_of-work c = c.one_parent.ensures.work_len_unchanged ∙ simp length-set c.clear.ensures.work_len_unchanged
 
 pub returns : goal.returns
 returns c =
+    let counts : count child_refs c.args.func.now ≤ count regions c.args.func.now = omega (arith, c.if-n-c.false, c.count-c.ensures, c.count-n.ensures) in
     record { value = child_is c.args.func.now c.count-n.result c.count-c.result c.count.result c.count-n.ensures c.count-c.ensures c.count.ensures c.one_parent.result (sym c.child_fit.ensures ∙ not-false c.child_fit.result c.if-not-child_fit.false-raw)
           (c.one_parent.ensures.value
-          ∙ fresh_refs_zero child_refs regions c.args.func.now (count child_refs c.args.func.now) c.requires.tree_safe.child_refs_law (counts c) refl c.clear.new.work
+          ∙ fresh_refs_zero child_refs regions c.args.func.now (count child_refs c.args.func.now) c.requires.tree_safe.child_refs_law (counts) refl c.clear.new.work
           (omega (arith, c.requires.tree_safe.region_room, c.requires.work_need_in_bounds, c.clear.ensures.work_len_unchanged))
           (omega (arith, c.requires.work_need_in_bounds, c.clear.ensures.work_len_unchanged))
           (λ x h. c.clear.ensures.cleared.blank x (omega arith) (omega (arith, c.wide.ensures, c.count-n.ensures)))); work_len_unchanged = c.one_parent.ensures.work_len_unchanged ∙ simp length-set c.clear.ensures.work_len_unchanged }

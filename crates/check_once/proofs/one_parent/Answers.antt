@@ -16,18 +16,6 @@ use Rattle.check_marks.specs.Marks.{fresh_marks, fresh_done, tab_done}
 use Rattle.check_once.proofs.Laws.{parent_first, children_first, children_done, child_hit, child_next, parent_in, child_in_law, child_low}
 use Rattle.check_once.proofs.one_parent.Goals as goal
 
--- the node, the child and its number
-known : (c : tie.After-row-child invariant-children decreases-children invariant-nodes decreases-nodes) → c.before.before.before.before.before.nodes.n < count nodes c.before.before.before.before.before.before.before.before.before.before.args.func.now
-known c = omega (arith, c.before.before.before.before.before.before.wide.ensures, c.before.before.before.before.before.before.before.count.ensures)
-
-small : (c : tie.After-row-child invariant-children decreases-children invariant-nodes decreases-nodes) → c.row-child.result < 128
-small c =
-    let s = c.before.before.before.before.before.before.before.before.before.before in
-    child_low s.args.func.now s.requires.0 s.requires.1.0 c.before.before.before.before.before.nodes.n c.before.before.children.i c.row-child.result (known c) (omega (arith, c.before.before.before.row-children.ensures)) c.row-child.ensures
-
-low : (c : tie.After-row-child invariant-children decreases-children invariant-nodes decreases-nodes) → c.row-child.result < length c.before.before.children.work
-low c = omega (arith, small c, c.before.before.before.before.before.before.before.before.before.before.requires.1.1, c.before.before.before.before.before.nodes.invariant.2, c.before.before.children.invariant.2)
-
 pub count-requires : goal.count-requires
 count-requires c = (c.requires.tree_safe.size, lit< tt)
 
@@ -50,16 +38,30 @@ row_child-c-requires c =
     record { within = parent_in c.args.func.now c.requires.tree_safe c.requires.func_bound.0 c.nodes.n k; i_bound = (omega arith, child_in_law c.args.func.now c.requires.tree_safe c.requires.func_bound.0 c.nodes.n c.children.i k l) }
 
 pub offset_bounds-work-c : goal.offset_bounds-work-c
-offset_bounds-work-c c = omega (arith, small c)
+offset_bounds-work-c c =
+    let known : c.nodes.n < count nodes c.args.func.now = omega (arith, c.wide-total.ensures, c.count.ensures) in
+    let small : c.row_child-c.result < 128 = child_low c.args.func.now c.requires.tree_safe c.requires.func_bound.0 c.nodes.n c.children.i c.row_child-c.result (known) (omega (arith, c.row_children-m.ensures)) c.row_child-c.ensures in
+    omega (arith, small)
 
 pub bounds-work-c : goal.bounds-work-c
-bounds-work-c c = low c
+bounds-work-c c =
+    let known : c.nodes.n < count nodes c.args.func.now = omega (arith, c.wide-total.ensures, c.count.ensures) in
+    let small : c.row_child-c.result < 128 = child_low c.args.func.now c.requires.tree_safe c.requires.func_bound.0 c.nodes.n c.children.i c.row_child-c.result (known) (omega (arith, c.row_children-m.ensures)) c.row_child-c.ensures in
+    let low : c.row_child-c.result < length c.children.work = omega (arith, small, c.requires.func_bound.1, c.nodes.invariant.2, c.children.invariant.2) in
+    low
 
 pub offset_bounds-work-c-in-children : goal.offset_bounds-work-c-in-children
-offset_bounds-work-c-in-children c = omega (arith, small c)
+offset_bounds-work-c-in-children c =
+    let known : c.nodes.n < count nodes c.args.func.now = omega (arith, c.wide-total.ensures, c.count.ensures) in
+    let small : c.row_child-c.result < 128 = child_low c.args.func.now c.requires.tree_safe c.requires.func_bound.0 c.nodes.n c.children.i c.row_child-c.result (known) (omega (arith, c.row_children-m.ensures)) c.row_child-c.ensures in
+    omega (arith, small)
 
 pub bounds-work-c-in-children : goal.bounds-work-c-in-children
-bounds-work-c-in-children c = low c
+bounds-work-c-in-children c =
+    let known : c.nodes.n < count nodes c.args.func.now = omega (arith, c.wide-total.ensures, c.count.ensures) in
+    let small : c.row_child-c.result < 128 = child_low c.args.func.now c.requires.tree_safe c.requires.func_bound.0 c.nodes.n c.children.i c.row_child-c.result (known) (omega (arith, c.row_children-m.ensures)) c.row_child-c.ensures in
+    let low : c.row_child-c.result < length c.children.work = omega (arith, small, c.requires.func_bound.1, c.nodes.invariant.2, c.children.invariant.2) in
+    low
 
 pub children-preserved : goal.children-preserved
 children-preserved c =
