@@ -185,7 +185,7 @@ class Function:
                         if cl and cl.get("fields") and len(cl["fields"]) > 1:
                             r = self.clause(head, cl["fields"], rest[1:])
                             return r[1:] if r.startswith("@") else r
-                    if first in ("new", "exit") and len(rest) > 1 and rest[1].isdigit() and p[3]:
+                    if first in ("new", "exit", "auto") and len(rest) > 1 and rest[1].isdigit() and p[3]:
                         muts = self.signatures.get(p[3], [])
                         k, tail = 0, rest[1:]
                         while tail and tail[0] in "01":
@@ -576,7 +576,7 @@ def signatures_of(root):
                 crate = parts[0]
                 mods = parts[2:] + ([] if n in ("lib.rt", "main.rt") else [n[:-3]])
                 for m in re.finditer(r"\bfn (\w+)\s*(?:<[^>]*>)?\(([^)]*)\)", t):
-                    muts = [re.match(r"\s*(?:mut )?(\w+)", q).group(1) for q in m.group(2).split(",") if ": &mut" in q or q.strip() == "&mut self"]
+                    muts = [re.match(r"\s*&?(?:mut )?(\w+)", q).group(1) for q in m.group(2).split(",") if q.strip()]
                     out["::".join([crate] + mods + [m.group(1)])] = muts
                     out.setdefault("*" + m.group(1), muts)
     return out

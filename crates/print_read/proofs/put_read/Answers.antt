@@ -7,5 +7,5 @@ use Rattle.print_read.proofs.put_read.Goals as goal
 
 pub returns : goal.returns
 returns c =
-    let same = line_is c.parse-parsed.result c.parse-parsed.new.work ∙ ap read_bytes c.parse-parsed.ensures.func_after in
+    let same = line_is c.parse-parsed.result c.parse-parsed.new.func ∙ ap read_bytes c.parse-parsed.ensures.func_after in
     record { printed = put_bytes_same c.put_line.ensures same; func_slice = c.parse-parsed.ensures.func_after_2; work_slice = c.parse-parsed.ensures.work_after }

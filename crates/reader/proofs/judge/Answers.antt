@@ -19,4 +19,4 @@ judge_text-requires c = record { func_words_in_bounds = (omega (arith, c.require
 pub returns : goal.returns
 returns c =
     let l = ap length c.empty.ensures ∙ length_empty c.args.func.now in
-    record { judges = judged_at c.args.text.now c.args.func.now c.args.work.now c.judge_text.result c.judge_text.new.work l c.clear.ensures.work_len_unchanged c.empty.ensures c.judge_text.ensures.judges; func_len_unchanged = c.judge_text.ensures.func_len_unchanged ∙ l; work_len_unchanged = c.judge_text.ensures.work_len_unchanged ∙ c.clear.ensures.work_len_unchanged }
+    record { judges = judged_at c.args.text.now c.args.func.now c.args.work.now c.judge_text.result c.judge_text.new.func l c.clear.ensures.work_len_unchanged c.empty.ensures c.judge_text.ensures.judges; func_len_unchanged = c.judge_text.ensures.func_len_unchanged ∙ l; work_len_unchanged = c.judge_text.ensures.work_len_unchanged ∙ c.clear.ensures.work_len_unchanged }
