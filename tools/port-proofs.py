@@ -17,7 +17,7 @@ IDENT = re.compile(NAME)
 
 
 def norm(s):
-    return s.replace("_", "-")
+    return s.replace("_", "-").lower()
 
 
 def split_blocks(text):
@@ -199,6 +199,8 @@ class Function:
                 return f"c.{new}"
         if s.endswith("_law"):
             return self.path([s[:-4]] + rest, at)
+        if norm(s) in ("well-formed", "type-inv"):
+            return ".".join(["c", s.replace("-", "_")] + rest)
         if s in ("ranges", "type_inv", "utf8", "auto", "lifetimes"):
             return ".".join(["c"] + segs)
         self.note(f"no step {s} above {at}")
@@ -538,7 +540,8 @@ def convert(crate_dir, crate, rel, info, signatures, said):
                 nb = "\n    " + nb
             else:
                 nb = " " + nb
-            outs.append(f"{new} c ={nb}{tail}")
+            more = "".join(" " + x for x in params[1:] if x != "κs")
+            outs.append(f"{new} c{more} ={nb}{tail}")
         if drop:
             continue
         answers.append("\n".join(pre + [f"pub {new} : goal.{new}"] + ([unf] if unf else []) + outs))

@@ -16,7 +16,7 @@ pub phi_value-requires : goal.phi_value-requires
 phi_value-requires c = record { visited = ready_visited c.requires.emit_ready c.args.i c.requires.i_lt_m.0; i_lt_m = c.requires.i_lt_m.0; j_in_bounds = c.requires.i_lt_m.1 }
 
 pub id_of-result-requires : goal.id_of-result-requires
-id_of-result-requires c = record { emit_ready = c.requires.emit_ready; m_nonzero = omega (arith, c.requires.i_lt_m.0); v_value = subst (Named (func_of c.args.func.now)) (sym c.phi_Value.ensures) (key_names c.requires.emit_ready c.args.i c.args.j c.requires.i_lt_m.0 c.requires.i_lt_m.1) }
+id_of-result-requires c = record { emit_ready = c.requires.emit_ready; m_nonzero = omega (arith, c.requires.i_lt_m.0); v_value = subst (Named (func_of c.args.func.now)) (sym c.phi_value.ensures) (key_names c.requires.emit_ready c.args.i c.args.j c.requires.i_lt_m.0 c.requires.i_lt_m.1) }
 
 pub phi_decl-decl-requires : goal.phi_decl-decl-requires
 phi_decl-decl-requires c = record { visited = ready_visited c.requires.emit_ready c.args.i c.requires.i_lt_m.0; i_lt_m = c.requires.i_lt_m.0; j_in_bounds = omega (arith, c.requires.i_lt_m.1) }
@@ -32,5 +32,5 @@ returns c =
     let F = func_of c.args.func.now in
         put_same (put_more c.put_front-a.ensures c.put_pairs.ensures)
     (phi_runs F c.args.first c.args.i c.args.j c.opcode.ensures (ap (λ (x : Decl). x.attrs) c.phi_decl-decl.ensures) (ap (λ (x : Decl). x.type) c.phi_decl-decl.ensures)
-    (c.id_of-result.ensures ∙ ap (id_in F c.args.first) c.phi_Value.ensures)
+    (c.id_of-result.ensures ∙ ap (id_in F c.args.first) c.phi_value.ensures)
     (ids_are c.requires.emit_ready c.args.i c.args.j c.requires.i_lt_m.0 c.requires.i_lt_m.1 c.requires.ids_value.0))

@@ -2,4 +2,4 @@
 use Rattle.func_look.proofs.decl.Goals as goal
 
 pub returns : goal.returns
-returns c = record { attrs = c.word.ensures i; type = c.word-2.ensures i }
+returns c i = record { attrs = c.word.ensures i; type = c.word-2.ensures i }

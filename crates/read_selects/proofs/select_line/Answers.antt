@@ -33,4 +33,4 @@ returns c =
     let q = by_answer selection_answer c.in-Kind.is c.selection.ensures in
     let r = met c.in-On.is c.select_rest.ensures.stores in
     let u = by_answer number_answer c.in-Number.is c.control_end.ensures in
-    record { stores = select_stored c.begin-marks.ensures q r u c.Select-row.ensures.0; func_len_unchanged = search rules }
+    record { stores = select_stored c.begin-marks.ensures q r u c.select_row.ensures.func_after; func_len_unchanged = search rules }

@@ -25,4 +25,4 @@ block_label-requires c = record { emit_ready = c.requires.emit_ready; p_lt_m = f
 pub returns : goal.returns
 returns c =
     put_same (put_more c.put_id-a.ensures c.put_id.ensures)
-    (ap₂ (λ (x y : ℕ). id x ∷ id y ∷ []) (c.id_of.ensures ∙ ap (id_in (func_of c.args.func.now) c.args.first) c.edge_value-value.ensures) c.block_Label.ensures)
+    (ap₂ (λ (x y : ℕ). id x ∷ id y ∷ []) (c.id_of.ensures ∙ ap (id_in (func_of c.args.func.now) c.args.first) c.edge_value-value.ensures) c.block_label.ensures)
