@@ -11,10 +11,8 @@ use Rattle.func.specs.Decode.{func_of}
 use Rattle.func.specs.Kinds.{decl_from}
 use Rattle.general_laws.specs.Every.{rest_first, rest_end, every_next, every_stop}
 use Rattle.check_first.specs.Lines.{decls_of}
+use Rattle.check_first.proofs.decls_below.Invariants.{test}
 use Rattle.check_first.proofs.decls_below.Goals as goal
-
-abbrev test : ℕ → Decl → Bool
-test first d = ltb d.type first
 
 pub decl_count-n-requires : goal.decl_count-n-requires
 decl_count-n-requires c = c.requires

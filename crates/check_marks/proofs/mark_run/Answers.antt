@@ -14,7 +14,7 @@ loop-i-init c = (omega arith, refl, ap (λ l. mark_all l c.args.v c.args.work.no
 pub overflow_add-at : goal.overflow_add-at
 overflow_add-at c =
     let reads_in : Within c.args.k c.args.func.now (c.args.at + c.loop-i.i) = c.requires.read _ (omega arith) (omega arith) in
-    omega (arith, (reads_in).below, (reads_in).ranges, entry_room_law c.args.k, (inside c.args.k (reads_in).pool).room)
+    omega (arith, (reads_in).below, (reads_in).fits, entry_room_law c.args.k, (inside c.args.k (reads_in).pool).room)
 
 pub row_ref-x-requires : goal.row_ref-x-requires
 row_ref-x-requires c =

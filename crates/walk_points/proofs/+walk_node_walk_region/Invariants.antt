@@ -12,14 +12,14 @@ decreases-walk_node l = length (node_words (func_of l.func.now) l.n)
 abbrev pub decreases-walk_region : goal.decreases-walk_region
 decreases-walk_region l = length (region_words (func_of l.func.now) l.r)
 
-abbrev pub walk_node-invariant-loop-i : goal.walk_node-invariant-loop-i
-walk_node-invariant-loop-i l = InNode l.func l.n l.m l.initial.work l.initial.at l.count l.i l.work l.at
+abbrev pub invariant-walk_node-loop-i : goal.invariant-walk_node-loop-i
+invariant-walk_node-loop-i l = InNode l.func l.n l.m l.initial.work l.initial.at l.count l.i l.work l.at
 
-abbrev pub walk_node-decreases-loop-i : goal.walk_node-decreases-loop-i
-walk_node-decreases-loop-i l = l.count - l.i
+abbrev pub decreases-walk_node-loop-i : goal.decreases-walk_node-loop-i
+decreases-walk_node-loop-i l = l.count - l.i
 
-abbrev pub walk_region-invariant-loop-i : goal.walk_region-invariant-loop-i
-walk_region-invariant-loop-i l = InRegion l.func l.r l.m l.initial.work l.initial.at l.count l.i l.work l.at
+abbrev pub invariant-walk_region-loop-i : goal.invariant-walk_region-loop-i
+invariant-walk_region-loop-i l = InRegion l.func l.r l.m l.initial.work l.initial.at l.count l.i l.work l.at
 
-abbrev pub walk_region-decreases-loop-i : goal.walk_region-decreases-loop-i
-walk_region-decreases-loop-i l = l.count - l.i
+abbrev pub decreases-walk_region-loop-i : goal.decreases-walk_region-loop-i
+decreases-walk_region-loop-i l = l.count - l.i
