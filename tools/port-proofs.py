@@ -239,7 +239,7 @@ class Function:
         """The last term of the lets, a tuple, as a record of the clauses' names."""
         # find the end of the lets at top level
         depth, i, cut = 0, 0, 0
-        for m in re.finditer(r"[(\[{]|[)\]}]|\blet\b|\bin\b", body):
+        for m in re.finditer(r"[(\[{]|[)\]}]|(?<![\w.-])let(?![\w-])|(?<![\w.-])in(?![\w-])", body):
             w = m.group(0)
             if w in "([{" and not (w == "(" and False):
                 depth += 1

@@ -18,17 +18,14 @@ ctrl_imm_count-requires c = record { tables = c.requires.tables; c_in_bounds = s
 pub returns-in-Node : goal.returns-in-Node
 returns-in-Node c =
     let F = func_of c.args.func.now in
-        list_total (listed_imms F) c.in
-    record { value = (-Node.is (node_imms c.requires.tables c.in-Node.n (subst (ImmsFit F) c.in-Node.is c.requires.imms_fit)) c.node_imm_count.ensures).0; upper_bound = (-Node.is (node_imms c.requires.tables c.in-Node.n (subst (ImmsFit F) c.in-Node.is c.requires.imms_fit)) c.node_imm_count.ensures).1 }
+    record { value = (list_total (listed_imms F) c.in-Node.is (node_imms c.requires.tables c.in-Node.n (subst (ImmsFit F) c.in-Node.is c.requires.imms_fit)) c.node_imm_count.ensures).0; upper_bound = (list_total (listed_imms F) c.in-Node.is (node_imms c.requires.tables c.in-Node.n (subst (ImmsFit F) c.in-Node.is c.requires.imms_fit)) c.node_imm_count.ensures).1 }
 
 pub returns-in-Op : goal.returns-in-Op
 returns-in-Op c =
     let F = func_of c.args.func.now in
-        list_total (listed_imms F) c.in
-    record { value = (-Op.is (op_imms_law c.requires.tables c.in-Op.o (subst (ImmsFit F) c.in-Op.is c.requires.imms_fit)) c.op_imm_count.ensures).0; upper_bound = (-Op.is (op_imms_law c.requires.tables c.in-Op.o (subst (ImmsFit F) c.in-Op.is c.requires.imms_fit)) c.op_imm_count.ensures).1 }
+    record { value = (list_total (listed_imms F) c.in-Op.is (op_imms_law c.requires.tables c.in-Op.o (subst (ImmsFit F) c.in-Op.is c.requires.imms_fit)) c.op_imm_count.ensures).0; upper_bound = (list_total (listed_imms F) c.in-Op.is (op_imms_law c.requires.tables c.in-Op.o (subst (ImmsFit F) c.in-Op.is c.requires.imms_fit)) c.op_imm_count.ensures).1 }
 
 pub returns-in-Ctrl : goal.returns-in-Ctrl
 returns-in-Ctrl c =
     let F = func_of c.args.func.now in
-        list_total (listed_imms F) c.in
-    record { value = (-Ctrl.is (ctrl_imms c.requires.tables c.in-Ctrl.c (subst (ImmsFit F) c.in-Ctrl.is c.requires.imms_fit)) c.ctrl_imm_count.ensures).0; upper_bound = (-Ctrl.is (ctrl_imms c.requires.tables c.in-Ctrl.c (subst (ImmsFit F) c.in-Ctrl.is c.requires.imms_fit)) c.ctrl_imm_count.ensures).1 }
+    record { value = (list_total (listed_imms F) c.in-Ctrl.is (ctrl_imms c.requires.tables c.in-Ctrl.c (subst (ImmsFit F) c.in-Ctrl.is c.requires.imms_fit)) c.ctrl_imm_count.ensures).0; upper_bound = (list_total (listed_imms F) c.in-Ctrl.is (ctrl_imms c.requires.tables c.in-Ctrl.c (subst (ImmsFit F) c.in-Ctrl.is c.requires.imms_fit)) c.ctrl_imm_count.ensures).1 }

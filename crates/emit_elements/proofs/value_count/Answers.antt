@@ -21,23 +21,19 @@ region_out_count-requires c = record { tables = c.requires.tables; r_in_bounds =
 pub returns-in-Operands : goal.returns-in-Operands
 returns-in-Operands c =
     let F = func_of c.args.func.now in
-        list_total (values_of F) c.in
-    record { value = (-Operands.is (op_operands c.requires.tables c.in-Operands.o (subst (ValuesFit F) c.in-Operands.is c.requires.values_fit)) c.operand_count.ensures).0; upper_bound = (-Operands.is (op_operands c.requires.tables c.in-Operands.o (subst (ValuesFit F) c.in-Operands.is c.requires.values_fit)) c.operand_count.ensures).1 }
+    record { value = (list_total (values_of F) c.in-Operands.is (op_operands c.requires.tables c.in-Operands.o (subst (ValuesFit F) c.in-Operands.is c.requires.values_fit)) c.operand_count.ensures).0; upper_bound = (list_total (values_of F) c.in-Operands.is (op_operands c.requires.tables c.in-Operands.o (subst (ValuesFit F) c.in-Operands.is c.requires.values_fit)) c.operand_count.ensures).1 }
 
 pub returns-in-Ins : goal.returns-in-Ins
 returns-in-Ins c =
     let F = func_of c.args.func.now in
-        list_total (values_of F) c.in
-    record { value = (-Ins.is (ctrl_ins c.requires.tables c.in-Ins.c (subst (ValuesFit F) c.in-Ins.is c.requires.values_fit)) c.ctrl_in_count.ensures).0; upper_bound = (-Ins.is (ctrl_ins c.requires.tables c.in-Ins.c (subst (ValuesFit F) c.in-Ins.is c.requires.values_fit)) c.ctrl_in_count.ensures).1 }
+    record { value = (list_total (values_of F) c.in-Ins.is (ctrl_ins c.requires.tables c.in-Ins.c (subst (ValuesFit F) c.in-Ins.is c.requires.values_fit)) c.ctrl_in_count.ensures).0; upper_bound = (list_total (values_of F) c.in-Ins.is (ctrl_ins c.requires.tables c.in-Ins.c (subst (ValuesFit F) c.in-Ins.is c.requires.values_fit)) c.ctrl_in_count.ensures).1 }
 
 pub returns-in-Node : goal.returns-in-Node
 returns-in-Node c =
     let F = func_of c.args.func.now in
-        list_total (values_of F) c.in
-    record { value = (-Node.is (node_values_law c.requires.tables c.in-Node.n (subst (ValuesFit F) c.in-Node.is c.requires.values_fit)) c.node_value_count.ensures).0; upper_bound = (-Node.is (node_values_law c.requires.tables c.in-Node.n (subst (ValuesFit F) c.in-Node.is c.requires.values_fit)) c.node_value_count.ensures).1 }
+    record { value = (list_total (values_of F) c.in-Node.is (node_values_law c.requires.tables c.in-Node.n (subst (ValuesFit F) c.in-Node.is c.requires.values_fit)) c.node_value_count.ensures).0; upper_bound = (list_total (values_of F) c.in-Node.is (node_values_law c.requires.tables c.in-Node.n (subst (ValuesFit F) c.in-Node.is c.requires.values_fit)) c.node_value_count.ensures).1 }
 
 pub returns-in-Outs : goal.returns-in-Outs
 returns-in-Outs c =
     let F = func_of c.args.func.now in
-        list_total (values_of F) c.in
-    record { value = (-Outs.is (region_outs c.requires.tables c.in-Outs.r (subst (ValuesFit F) c.in-Outs.is c.requires.values_fit)) c.region_out_count.ensures).0; upper_bound = (-Outs.is (region_outs c.requires.tables c.in-Outs.r (subst (ValuesFit F) c.in-Outs.is c.requires.values_fit)) c.region_out_count.ensures).1 }
+    record { value = (list_total (values_of F) c.in-Outs.is (region_outs c.requires.tables c.in-Outs.r (subst (ValuesFit F) c.in-Outs.is c.requires.values_fit)) c.region_out_count.ensures).0; upper_bound = (list_total (values_of F) c.in-Outs.is (region_outs c.requires.tables c.in-Outs.r (subst (ValuesFit F) c.in-Outs.is c.requires.values_fit)) c.region_out_count.ensures).1 }

@@ -14,14 +14,10 @@ const_id-requires c =
     record { tables = k.tables; i_in_bounds = omega (arith, known_const k, c.wide.ensures) }
 
 pub later-requires : goal.later-requires
-later-requires c =
-    input_room_law c.requires.ids (known_as c.requires.known_value (ap as_value c.in-Input.is)) c.requires.ids_end_in_bounds.0 c.requires.ids_end_in_bounds.1 c.wide-in
-    record { s_in_bounds = (-Input.ensures).0; i_bound = (-Input.ensures).1 }
+later-requires c = record { s_in_bounds = (input_room_law c.requires.ids (known_as c.requires.known_value (ap as_value c.in-Input.is)) c.requires.ids_end_in_bounds.0 c.requires.ids_end_in_bounds.1 c.wide-in-Input.ensures).0; i_bound = (input_room_law c.requires.ids (known_as c.requires.known_value (ap as_value c.in-Input.is)) c.requires.ids_end_in_bounds.0 c.requires.ids_end_in_bounds.1 c.wide-in-Input.ensures).1 }
 
 pub later-requires-in-Output : goal.later-requires-in-Output
-later-requires-in-Output c =
-    output_room c.requires.ids (known_as c.requires.known_value (ap as_value c.in-Output.is)) c.requires.ids_end_in_bounds.0 c.requires.ids_end_in_bounds.1 c.wide-in
-    record { s_in_bounds = (-Output.ensures).0; i_bound = (-Output.ensures).1 }
+later-requires-in-Output c = record { s_in_bounds = (output_room c.requires.ids (known_as c.requires.known_value (ap as_value c.in-Output.is)) c.requires.ids_end_in_bounds.0 c.requires.ids_end_in_bounds.1 c.wide-in-Output.ensures).0; i_bound = (output_room c.requires.ids (known_as c.requires.known_value (ap as_value c.in-Output.is)) c.requires.ids_end_in_bounds.0 c.requires.ids_end_in_bounds.1 c.wide-in-Output.ensures).1 }
 
 pub bounds-work-wide : goal.bounds-work-wide
 bounds-work-wide c = omega (arith, result_low c.requires.ids (known_as c.requires.known_value (ap as_value c.in-Result.is)), c.wide-in-Result.ensures, c.requires.ids_end_in_bounds.0)

@@ -10,11 +10,7 @@ pub node_child_count-requires : goal.node_child_count-requires
 node_child_count-requires c = record { tables = c.requires.tables; n_in_bounds = fits_as c.requires c.in-Select.is }
 
 pub returns-in-Line : goal.returns-in-Line
-returns-in-Line c =
-    line_count c.requires c.in
-    record { value = (-Line.is c.target_count.ensures).0; upper_bound = (-Line.is c.target_count.ensures).1 }
+returns-in-Line c = record { value = (line_count c.requires c.in-Line.is c.target_count.ensures).0; upper_bound = (line_count c.requires c.in-Line.is c.target_count.ensures).1 }
 
 pub returns-in-Select : goal.returns-in-Select
-returns-in-Select c =
-    select_count c.requires c.in
-    record { value = (-Select.is c.node_child_count.ensures).0; upper_bound = (-Select.is c.node_child_count.ensures).1 }
+returns-in-Select c = record { value = (select_count c.requires c.in-Select.is c.node_child_count.ensures).0; upper_bound = (select_count c.requires c.in-Select.is c.node_child_count.ensures).1 }
