@@ -91,6 +91,15 @@ def unwrap(s):
     return s
 
 
+def climb(start, tail):
+    """A path below another one: `before` leads to the step before, but behind a step it is a field."""
+    segs = list(start)
+    for x in tail.split("."):
+        if x and (x != "before" or segs):
+            segs.append(x)
+    return segs
+
+
 class Function:
     def __init__(self, crate, name, info, signatures, said):
         self.crate, self.name, self.info, self.signatures, self.said = crate, name, info, signatures, said
@@ -217,8 +226,7 @@ class Function:
                     break
             else:
                 break
-            segs = [x for x in m.group(3).split(".") if x and x != "before"]
-            alias[m.group(1)] = alias[m.group(2)] + segs
+            alias[m.group(1)] = climb(alias[m.group(2)], m.group(3))
             body = body[:m.start()] + body[m.end():]
 
         def one(m):
@@ -229,8 +237,7 @@ class Function:
             before = body[:m.start()]
             if re.search(rf"(λ[^.]*|[(])\b{re.escape(head)} ?:?$", before) and not tail and before.rstrip().endswith("λ"):
                 return m.group(0)
-            segs = alias[head] + [x for x in tail.split(".") if x and x != "before"]
-            return self.path(segs, at)
+            return self.path(climb(alias[head], tail), at)
 
         pieces = re.split(r'("(?:[^"\\]|\\.)*")', body)
         return "".join(x if i % 2 else PATH.sub(one, x) for i, x in enumerate(pieces))

@@ -9,7 +9,7 @@ pub loop-i-init : goal.loop-i-init
 loop-i-init c = absorbing_first c.requires.visited c.requires.counted
 
 pub status-s-requires : goal.status-s-requires
-status-s-requires c = record { visited = c.loop-i.invariant.visited; counted = c.loop-i.invariant.counted; absorb_words = c.loop-i.invariant.absorbing; i_lt_m = (c.loop-i-test.true, c.loop-i.invariant) }
+status-s-requires c = record { visited = c.loop-i.invariant.visited; counted = c.loop-i.invariant.counted; absorb_words = c.loop-i.invariant.absorbing; i_lt_m = (c.loop-i-test.true, c.loop-i.invariant.before) }
 
 pub absorbs_next-joined-requires : goal.absorbs_next-joined-requires
 absorbs_next-joined-requires c = record { visited = c.loop-i.invariant.visited; counted = c.loop-i.invariant.counted; i_lt_m = c.loop-i-test.true }

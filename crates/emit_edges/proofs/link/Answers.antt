@@ -9,7 +9,7 @@ pub clear-requires : goal.clear-requires
 clear-requires c = (omega arith, omega (arith, c.requires.laid.size))
 
 pub link_all-requires : goal.link_all-requires
-link_all-requires c = record { laid = laid_kept c.requires.laid (λ x l h. c.clear.ensures.cleared.aside x (omega arith)) c.clear.ensures.work_len_unchanged; stands = c.requires.stands; unlinked = record { word = c.clear.ensures.cleared.blank } }
+link_all-requires c = record { laid = laid_kept c.requires.laid (λ x l h. c.clear.ensures.cleared.aside.before x (omega arith)) c.clear.ensures.work_len_unchanged; stands = c.requires.stands; unlinked = record { word = c.clear.ensures.cleared.blank } }
 
 pub returns : goal.returns
 returns c =

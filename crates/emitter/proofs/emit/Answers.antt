@@ -37,7 +37,7 @@ returns-then-not-next_fits c =
     record { gives = gives_ids F c.args.first (length c.args.out.now) c.args.out.now (ids_over F c.args.first (fits_as c.number-next.ensures.value (sym c.next_fits.ensures ∙ not-true _ c.if-not-next_fits.true-raw))); work_len_unchanged = c.number-next.ensures.work_len_unchanged ∙ c.lay-m.ensures.work_len_unchanged; wanted = wants_not Ids 0 _ refl }
 
 pub link-requires : goal.link-requires
-link-requires c = record { laid = laid_kept c.lay-m.ensures.laid (λ x l h. c.number-next.ensures.aside x h) c.number-next.ensures.work_len_unchanged; stands = c.requires.stands }
+link-requires c = record { laid = laid_kept c.lay-m.ensures.laid (λ x l h. c.number-next.ensures.aside.before x h) c.number-next.ensures.work_len_unchanged; stands = c.requires.stands }
 
 pub written-requires : goal.written-requires
 written-requires c =
@@ -45,7 +45,7 @@ written-requires c =
         let low = sym c.id_fits.ensures ∙ not-false _ c.if-not-id_fits.false-raw in
     let held = ids_held F c.args.first (sym c.first_fits.ensures ∙ not-false _ c.if-not-first_fits.false-raw) low (fits_as c.number-next.ensures.value (sym c.next_fits.ensures ∙ not-false _ c.if-not-next_fits.false-raw)) in
     record { over = record {
-        ready = record { laid = c.link.ensures.laid_2; stands = c.requires.stands; ids = ids_kept c.number-next.ensures.ids (λ x l h. c.link.ensures.aside x h); low = leb-true c.args.first highest_id low };
+        ready = record { laid = c.link.ensures.laid_2; stands = c.requires.stands; ids = ids_kept c.number-next.ensures.ids (λ x l h. c.link.ensures.aside.before x h); low = leb-true c.args.first highest_id low };
         linked = c.link.ensures.linked;
       }; first_value = held; next_value = c.number-next.ensures.value }
 
