@@ -1,5 +1,4 @@
--- The function slice: its pools, what a text stores there, and the function that stands there.
-pub mod Laws
+-- The function slice: its pools, what a text stores there, and the function that stands there. What these keep is proved in proofs/.
 pub mod Layout
 pub mod Store
 pub mod Adds
@@ -14,4 +13,3 @@ pub mod Back
 pub mod Tables
 pub mod Search
 pub mod Stored
-pub mod Example

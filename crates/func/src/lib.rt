@@ -2,7 +2,6 @@
 // crate above looks at its words: crate func_store stores, func_look answers, and func_rows answers of a text that is not known to fit.
 #![tactic(auto)]
 
-
 // A value V: constant, input of a region, output of a node, result of an op.
 #[derive(Clone, Copy)]
 pub enum Val {

@@ -16,9 +16,10 @@ use Rattle.general_laws.specs.Tests.{find_in}
 use Rattle.lifting_runs.specs.Each.{each_absorbed}
 use Rattle.lifting_runs.specs.Tour.{find_unique, in_points}
 use Rattle.lifting_runs.specs.KeptTerms.{SameKeys, Shape, absorb_shape, in_keep, in_uses, same_some}
-use Rattle.lifting_runs.specs.AcceptedRuns.{some_world}
-use Rattle.lifting_runs.specs.Shaped.{Shaped, leads, tidy}
-use Rattle.lifting_runs.specs.EndedKept.{kept_term}
+use Rattle.lifting_runs.proofs.AcceptedRuns.{some_world}
+use Rattle.lifting_runs.specs.Shaped.{Shaped}
+use Rattle.lifting_runs.proofs.Shaped.{leads, tidy}
+use Rattle.lifting_runs.proofs.EndedKept.{kept_term}
 use Rattle.lifting_blocks.specs.Uses.{labels_visited}
 use Rattle.lifting_blocks.specs.Phis.{edge_kept}
 

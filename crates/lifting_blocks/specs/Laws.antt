@@ -20,7 +20,8 @@ use Rattle.lifting_runs.specs.Accepted.{Numbered}
 use Rattle.lifting_runs.specs.Refers.{Refers}
 use Rattle.lifting_runs.specs.Terms.{TermOk}
 use Rattle.lifting_blocks.specs.Flat.{Pass, block_parts, absorb_runs, gone, no_pair, part_at, status_at, up_to}
-use Rattle.lifting_runs.specs.Shaped.{Shaped, walk_first, walk_once}
+use Rattle.lifting_runs.specs.Shaped.{Shaped}
+use Rattle.lifting_runs.proofs.Shaped.{walk_first, walk_once}
 use Rattle.lifting_blocks.specs.Chain.{chain_get_or, first_in_table}
 use Rattle.lifting_blocks.specs.Steps.{Step, walk_steps}
 use Rattle.lifting_blocks.specs.Follow.{goes_on, walk_follows}

@@ -25,7 +25,7 @@ use Rattle.general_laws.specs.Members.{In, all_in, gather_in, here, in_cases, in
 use Rattle.lifting_runs.specs.Accepted.{Accepted, Numbered}
 use Rattle.lifting_runs.specs.Refers.{Refers}
 use Rattle.lifting_runs.specs.Used.{settles}
-use Rattle.lifting_runs.specs.AcceptedRuns.{some_world, sound}
+use Rattle.lifting_runs.proofs.AcceptedRuns.{some_world, sound}
 use Rattle.lifting_runs.specs.AbsorbCount.{in_count}
 use Rattle.lifting_runs.specs.Ids.{KnownIds, id_positive, number_from_law}
 use Rattle.lifting_runs.specs.EmitRun.{BlockOk, OpOk, point_named}

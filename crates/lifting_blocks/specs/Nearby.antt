@@ -14,7 +14,8 @@ use Rattle.lifting_runs.specs.Places.{Suffix, VisitedAt, at_body, by_ctrl, in_ca
 use Rattle.lifting_runs.specs.AbsorbCount.{sole_straight}
 use Rattle.lifting_blocks.specs.Chain.{chain_map, none_some, some_injective}
 use Rattle.lifting_blocks.specs.Beside.{Leads}
-use Rattle.lifting_runs.specs.Shaped.{Shaped, laid}
+use Rattle.lifting_runs.specs.Shaped.{Shaped}
+use Rattle.lifting_runs.proofs.Shaped.{laid}
 use Rattle.lifting_blocks.specs.Steps.{Onto, Step, entry_point, step_entry, step_exit, step_in, step_out, walk_steps}
 use Rattle.lifting_blocks.specs.Uses.{Uses, before_node, from_block, leads_there, merge_select, used_twice}
 use Rattle.lifting_blocks.specs.Neighbours.{Ahead, Near}

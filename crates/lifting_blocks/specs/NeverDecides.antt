@@ -20,7 +20,8 @@ use Rattle.lifting_runs.specs.AbsorbCount.{block_keys, sole_straight}
 use Rattle.lifting_runs.specs.Each.{Each, each_at, each_absorb, absorbed_by}
 use Rattle.lifting_runs.specs.Terms.{TermOk}
 use Rattle.lifting_runs.specs.Ended.{EndedCase}
-use Rattle.lifting_runs.specs.Shaped.{Shaped, laid, terms, walk_once}
+use Rattle.lifting_runs.specs.Shaped.{Shaped}
+use Rattle.lifting_runs.proofs.Shaped.{laid, terms, walk_once}
 use Rattle.lifting_blocks.specs.Chain.{chain_all, none_some}
 use Rattle.lifting_blocks.specs.Steps.{Step, step_entry, step_exit, step_in, step_out, walk_steps}
 use Rattle.lifting_blocks.specs.Neighbours.{block_in}

@@ -22,7 +22,8 @@ use Rattle.lifting_runs.specs.AbsorbAll.{find_keep}
 use Rattle.lifting_runs.specs.KeptTerms.{SameKeys, absorb_shape, in_keep, keep_find}
 use Rattle.lifting_blocks.specs.Flat.{absorb_runs, absorb_from, absorb_step, absorbs_next, absorbs_target, no_keys}
 use Rattle.lifting_blocks.specs.Chain.{chain_all}
-use Rattle.lifting_runs.specs.Shaped.{Shaped, leads, tidy, walk_once}
+use Rattle.lifting_runs.specs.Shaped.{Shaped}
+use Rattle.lifting_runs.proofs.Shaped.{leads, tidy, walk_once}
 use Rattle.lifting_blocks.specs.Steps.{Step, step_entry, step_exit, step_in, step_out, walk_steps}
 use Rattle.lifting_blocks.specs.Uses.{before_node, leads_there, merge_select, used_once}
 use Rattle.lifting_blocks.specs.Neighbours.{kept_into}

@@ -21,7 +21,8 @@ use Rattle.lifting_runs.specs.Accepted.{Numbered}
 use Rattle.lifting_runs.specs.Ids.{number_from_law}
 use Rattle.lifting_runs.specs.IdsOnce
 use Rattle.lifting_runs.specs.IdsOnce.{number_at}
-use Rattle.lifting_runs.specs.Shaped.{Shaped, depth, in_order, tree, walk_is, walk_once}
+use Rattle.lifting_runs.specs.Shaped.{Shaped}
+use Rattle.lifting_runs.proofs.Shaped.{depth, in_order, tree, walk_is, walk_once}
 use Rattle.lifting_blocks.specs.Phis.{phi_keys_kept}
 
 pub positive : (n : ℕ) → 0 < n → ltb 0 n ≡ true

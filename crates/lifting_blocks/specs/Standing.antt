@@ -22,10 +22,12 @@ use Rattle.lifting.specs.Absorb.{sole_target, use_count}
 use Rattle.general_laws.specs.Members.{In, all_in, in_cases, in_get_or, in_nil}
 use Rattle.lifting_runs.specs.Places.{VisitedAt, whole}
 use Rattle.lifting_runs.specs.Tour.{same_position}
-use Rattle.lifting_runs.specs.Ended.{CaseEnds, Ended, last_exit, case_ended, suffix_last}
+use Rattle.lifting_runs.specs.Ended.{CaseEnds, Ended}
+use Rattle.lifting_runs.proofs.Ended.{last_exit, case_ended, suffix_last}
 use Rattle.lifting_runs.specs.Terms.{TermOk}
-use Rattle.lifting_runs.specs.Shaped.{Shaped, laid, terms, visited_out, walk_once}
-use Rattle.lifting_runs.specs.EndedKept.{case_ends, count_case, count_out, last, last_leads}
+use Rattle.lifting_runs.specs.Shaped.{Shaped}
+use Rattle.lifting_runs.proofs.Shaped.{laid, terms, visited_out, walk_once}
+use Rattle.lifting_runs.proofs.EndedKept.{case_ends, count_case, count_out, last, last_leads}
 use Rattle.lifting_blocks.specs.Flat.{Status, by_count, carry, absorbs_here, absorbs_next, absorbs_target, gone, goes, no_keys, no_pair, starts, status, status_at, status_from}
 use Rattle.lifting_blocks.specs.FlatLaws.{absorb_last, absorb_next}
 use Rattle.lifting_blocks.specs.Chain.{chain_get_or}

@@ -14,7 +14,8 @@ use Rattle.lifting_runs.specs.Accepted.{Root, Targets}
 use Rattle.lifting_runs.specs.Order.{roots_visited}
 use Rattle.lifting_blocks.specs.Chain.{Chain, chain_append, first_append, first_in_table}
 use Rattle.lifting_blocks.specs.Beside.{Beside, InOrder, first, roots_beside}
-use Rattle.lifting_runs.specs.Shaped.{Shaped, walk_is}
+use Rattle.lifting_runs.specs.Shaped.{Shaped}
+use Rattle.lifting_runs.proofs.Shaped.{walk_is}
 
 abbrev pub entry_point : Option ℕ → Option CfgPoint
 entry_point none = none

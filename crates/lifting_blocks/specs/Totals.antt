@@ -7,7 +7,8 @@ use Rattle.lifting.specs.Points.{BlockLifting, CfgPoint, Table, eq_point, points
 use Rattle.lifting.specs.Walk.{walk_of}
 use Rattle.lifting.specs.Absorb.{count_in, first_use, labels, count_one, use_count, uses}
 use Rattle.general_laws.specs.Members.{In, NoDup, gather_in, here, in_cases, in_nil, in_split, there}
-use Rattle.lifting_runs.specs.Shaped.{Shaped, walk_first, walk_once}
+use Rattle.lifting_runs.specs.Shaped.{Shaped}
+use Rattle.lifting_runs.proofs.Shaped.{walk_first, walk_once}
 use Rattle.lifting_blocks.specs.Uses.{labels_visited}
 
 -- all uses: the first point, and every target and merge label

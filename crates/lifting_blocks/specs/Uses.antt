@@ -15,7 +15,8 @@ use Rattle.lifting_runs.specs.Tour.{in_points}
 use Rattle.lifting_runs.specs.Terms.{TermLeads}
 use Rattle.lifting_blocks.specs.Chain.{chain_all}
 use Rattle.lifting_blocks.specs.Beside.{Leads}
-use Rattle.lifting_runs.specs.Shaped.{Shaped, laid, leads, visited_exit, visited_out}
+use Rattle.lifting_runs.specs.Shaped.{Shaped}
+use Rattle.lifting_runs.proofs.Shaped.{laid, leads, visited_exit, visited_out}
 use Rattle.lifting_blocks.specs.Steps.{Step, step_entry, step_exit, step_in, step_out, walk_steps}
 
 -- q is a target or a merge label of the block at p

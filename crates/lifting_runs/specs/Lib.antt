@@ -1,4 +1,5 @@
--- Demand 3 step by step, from what the refusals leave of a text to the run of its list, and demand 2's theorems about ids and phi pairs.
+-- Demand 3 step by step, from what the refusals leave of a text to the run of its list, and what demand 2 says of ids and phi pairs. What rests on
+-- `proofs/Ended` stands in proofs/ too.
 pub mod StandsOnce
 pub mod Accepted
 pub mod Refers
@@ -28,14 +29,8 @@ pub mod Ended
 pub mod Terms
 pub mod KeptTerms
 pub mod Shaped
-pub mod EndedKept
-pub mod AcceptedRuns
 pub mod IdsOnce
-pub mod Numbering
 pub mod Pairs
 pub mod ListIds
 pub mod ListPhis
-pub mod EveryText
-pub mod Demand3
 pub mod Controls
-pub mod WitnessRuns

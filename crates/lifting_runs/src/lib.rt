@@ -1,3 +1,2 @@
-// Demand 3, proved over the definitions of the crate lifting; all of it stands in specs/.
+// Demand 3, proved over the definitions of the crate lifting; all of it stands in specs/ and proofs/.
 #![tactic(auto)]
-

@@ -2,7 +2,6 @@
 pub mod Sums
 pub mod Weights
 pub mod BlockWeights
-pub mod Flow
 pub mod Lines
 pub mod Labels
 pub mod Parsing

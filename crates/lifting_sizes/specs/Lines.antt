@@ -22,7 +22,8 @@ use Rattle.lifting_runs.specs.Refers.{Refers}
 use Rattle.lifting_runs.specs.Places.{Suffix, VisitedAt}
 use Rattle.lifting_runs.specs.TourLaid.{suffix_in}
 use Rattle.lifting_runs.specs.IdsOnce.{phis_nodup}
-use Rattle.lifting_runs.specs.Shaped.{Shaped, depth, in_order, tree, visited_low, walk_is, walk_once}
+use Rattle.lifting_runs.specs.Shaped.{Shaped}
+use Rattle.lifting_runs.proofs.Shaped.{depth, in_order, tree, visited_low, walk_is, walk_once}
 use Rattle.lifting_blocks.specs.Chain.{chain_all}
 use Rattle.lifting_blocks.specs.Steps.{Step, step_entry, step_exit, step_in, step_out, walk_steps}
 use Rattle.lifting_blocks.specs.Kept.{point_block}

@@ -13,7 +13,8 @@ use Rattle.lifting.specs.Absorb.{count_in}
 use Rattle.general_laws.specs.Members.{In, here, in_cases, in_nil, map_in, there}
 use Rattle.lifting_runs.specs.Pairs.{counted_in}
 use Rattle.lifting_runs.specs.Places.{VisitedAt}
-use Rattle.lifting_runs.specs.Shaped.{Shaped, walk_once}
+use Rattle.lifting_runs.specs.Shaped.{Shaped}
+use Rattle.lifting_runs.proofs.Shaped.{walk_once}
 use Rattle.lifting_blocks.specs.Chain.{Chain, first_in_table}
 use Rattle.lifting_blocks.specs.Steps.{Step, placed_as, step_entry, step_exit, step_in, step_out, walk_steps}
 use Rattle.lifting_blocks.specs.Totals.{total, total_once}

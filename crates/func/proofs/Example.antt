@@ -7,8 +7,10 @@ use Rattle.lifting.specs.Ast.{const, region_input, node_output, data_inst_output
 use Rattle.func.specs.Layout.{func_need}
 use Rattle.func.specs.Keep.{keep_func}
 use Rattle.func.specs.Decode.{func_of}
-use Rattle.func.specs.Whole.{entry_list, empty_pools, clear_empty}
-use Rattle.func.specs.Back.{RowFits, func_back}
+use Rattle.func.specs.Whole.{entry_list, empty_pools}
+use Rattle.func.proofs.Whole.{clear_empty}
+use Rattle.func.specs.Back.{RowFits}
+use Rattle.func.proofs.Back.{func_back}
 
 decl : ℕ → ℕ → Decl
 decl a t = record { attrs = a; type = t }

@@ -12,7 +12,7 @@ use Rattle.lifting.specs.World.{World}
 use Rattle.lifting.specs.Runs.{AlikeRuns, TrueConstants}
 use Rattle.lifting.specs.Witness
 use Rattle.lifting.specs.KilledCase
-use Rattle.lifting_runs.specs.Demand3.{demand_3}
+use Rattle.lifting_runs.proofs.Demand3.{demand_3}
 
 -- the constants of both: none is of opcode 41
 abbrev two_consts : List Const

@@ -25,11 +25,11 @@ use Rattle.lifting.specs.Runs.{AlikeRuns, TrueConstants}
 use Rattle.general_laws.specs.Members.{NoDup}
 use Rattle.lifting_runs.specs.Accepted.{Accepted}
 use Rattle.lifting_runs.specs.Stuck.{regions_go_on}
-use Rattle.lifting_runs.specs.AcceptedRuns.{accepted_alike, blocks_go_on}
+use Rattle.lifting_runs.proofs.AcceptedRuns.{accepted_alike, blocks_go_on}
 use Rattle.lifting_runs.specs.IdsOnce.{number_at}
 use Rattle.lifting_runs.specs.Pairs.{OnePairEach, one_pair_each}
 use Rattle.lifting_runs.specs.Passes.{ListPassed, answer_passes}
-use Rattle.lifting_runs.specs.EveryText.{Fine, accepted_text, every_fine}
+use Rattle.lifting_runs.proofs.EveryText.{Fine, accepted_text, every_fine}
 
 module _ (text : List ℕ) (first func work out : ℕ) (ws : List ℕ) (next : ℕ) (ok : answer text first func work out ≡ listed ws next)
     (F : Func) (is : read text ≡ some F) where

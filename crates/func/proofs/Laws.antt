@@ -7,7 +7,8 @@ use Rattle.func.specs.declared.Val.{Val}
 use Rattle.func.specs.Keep.{keep_value}
 use Rattle.func.specs.Kinds.{as_value}
 use Rattle.func.specs.Layout.{base, width, room}
-use Rattle.func.specs.Store.{count, most, stored, place, raise, place_yes, place_no}
+use Rattle.func.specs.Store.{count, most, stored, place, raise}
+use Rattle.func.proofs.Store.{place_yes, place_no}
 
 -- the two ways of placing an entry
 pub place_stored : (k n at : ℕ) (e w v : List ℕ) → n ≡ get_or w (4 + k) 0 → at ≡ base k + n * width k → v ≡ sets w at e → get_or w (4 + k) 0 < room k

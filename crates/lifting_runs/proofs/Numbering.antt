@@ -13,7 +13,7 @@ use Rattle.lifting_runs.specs.Accepted.{Accepted}
 use Rattle.lifting_runs.specs.TourOnce.{roots_nodup}
 use Rattle.lifting_runs.specs.Order.{roots_ok}
 use Rattle.lifting_runs.specs.Forest.{tree_of}
-use Rattle.lifting_runs.specs.Shaped.{shaped_accepted, walk_is}
+use Rattle.lifting_runs.proofs.Shaped.{shaped_accepted, walk_is}
 use Rattle.lifting_runs.specs.IdsOnce.{kept_points, names_once}
 
 module _ (F : Func) (first : ℕ) (ok : Accepted F first) (body : has_body F.regions ≡ true) where

@@ -26,10 +26,12 @@ use Rattle.lifting_runs.specs.AbsorbCount.{block_keys, block_other, sole_straigh
 use Rattle.lifting_runs.specs.Each.{after_all, after_turn, after_turns, all_absorb, absorbed_by}
 use Rattle.lifting_runs.specs.Tour.{in_points}
 use Rattle.lifting_runs.specs.Pairs.{counted_in}
-use Rattle.lifting_runs.specs.Ended.{Behind, CaseEnds, Ended, is_select, last_exit, last_of, case_ended, suffix_last}
+use Rattle.lifting_runs.specs.Ended.{Behind, CaseEnds, Ended, is_select, last_of}
+use Rattle.lifting_runs.proofs.Ended.{last_exit, case_ended, suffix_last}
 use Rattle.lifting_runs.specs.Terms.{TermOk, nothing_ok}
 use Rattle.lifting_runs.specs.KeptTerms.{in_keep}
-use Rattle.lifting_runs.specs.Shaped.{Shaped, behind_exits, laid, terms, visited_out, walk_first, walk_once}
+use Rattle.lifting_runs.specs.Shaped.{Shaped}
+use Rattle.lifting_runs.proofs.Shaped.{behind_exits, laid, terms, visited_out, walk_first, walk_once}
 
 -- ---- uses
 

@@ -16,9 +16,9 @@ use Rattle.lifting_runs.specs.Refers.{refers}
 use Rattle.lifting_runs.specs.Fits.{forest, numbers_fit}
 use Rattle.lifting_runs.specs.Forest.{tree_of}
 use Rattle.lifting_runs.specs.EmitRun.{Sound}
-use Rattle.lifting_runs.specs.AcceptedRuns.{NoCon, keys_plain, some_world, sound}
+use Rattle.lifting_runs.proofs.AcceptedRuns.{NoCon, keys_plain, some_world, sound}
 use Rattle.lifting_runs.specs.IdsOnce
-use Rattle.lifting_runs.specs.Numbering.{no_name_twice, no_point_twice}
+use Rattle.lifting_runs.proofs.Numbering.{no_name_twice, no_point_twice}
 use Rattle.lifting_runs.specs.ListIds.{Fresh}
 use Rattle.lifting_runs.specs.Passes.{ListPassed, accepted_of}
 

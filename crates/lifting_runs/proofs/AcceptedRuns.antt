@@ -28,8 +28,9 @@ use Rattle.lifting_runs.specs.Tour.{find_unique}
 use Rattle.general_laws.specs.Tests.{find_in}
 use Rattle.lifting_runs.specs.Each.{every_walked}
 use Rattle.lifting_runs.specs.Terms.{TermOk}
-use Rattle.lifting_runs.specs.Shaped.{Shaped, laid, leads, shaped_accepted, tidy}
-use Rattle.lifting_runs.specs.EndedKept.{kept_term}
+use Rattle.lifting_runs.specs.Shaped.{Shaped}
+use Rattle.lifting_runs.proofs.Shaped.{laid, leads, shaped_accepted, tidy}
+use Rattle.lifting_runs.proofs.EndedKept.{kept_term}
 use Rattle.lifting_runs.specs.KeptTerms.{SameKeys, Shape, absorb_shape, in_keep, in_uses, same_some, some_same}
 
 -- any world will do: what the emitter needs of the blocks does not depend on it

@@ -1,0 +1,2 @@
+-- How much of an input decides.
+pub mod Cut
