@@ -12,7 +12,7 @@ use Rattle.lifting.specs.Walk.{walk_of}
 use Rattle.lifting.specs.Absorb.{labels}
 use Rattle.func.specs.Decode.{func_of}
 use Rattle.general_laws.specs.Members.{in_get_or}
-use Rattle.lifting_runs.specs.Shaped.{walk_first}
+use Rattle.lifting_runs.proofs.Shaped.{walk_first}
 use Rattle.work.specs.Layout.{uses_at, uses_end}
 use Rattle.work.specs.Aside.{Aside, aside_none, aside_set, aside_more}
 use Rattle.lifting_blocks.specs.Totals.{first_point, uses_of}

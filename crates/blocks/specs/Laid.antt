@@ -7,7 +7,7 @@ use Rattle.std.proofs.Math.Path.{ap}
 use Rattle.general_laws.specs.Compare.{lower, higher}
 use Rattle.lifting.specs.Ast.{Func}
 use Rattle.lifting.specs.Walk.{walk_of}
-use Rattle.lifting_runs.specs.EveryText.{walk_none}
+use Rattle.lifting_runs.proofs.EveryText.{walk_none}
 use Rattle.func.specs.Decode.{func_of}
 use Rattle.func.specs.Tables.{Tables}
 use Rattle.work.specs.Layout.{lines_at, children_at, points_at, uses_at, uses_end, statuses_at, absorbs_at, absorbs_end, work_need}

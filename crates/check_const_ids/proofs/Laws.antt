@@ -6,7 +6,8 @@ use lib.ListN.{length, get_or, length-map, get_or-map}
 use Rattle.func.specs.Layout.{consts}
 use Rattle.func.specs.Store.{count, view}
 use Rattle.func.specs.Decode.{decode_number}
-use Rattle.func.specs.Tables.{word, whole_pool}
+use Rattle.func.specs.Tables.{word}
+use Rattle.func.proofs.Tables.{whole_pool}
 use Rattle.check_const_ids.specs.Test.{const_ids}
 use Rattle.check_limits.specs.Limits.{LimitsReady}
 

@@ -13,7 +13,8 @@ use Rattle.lifting.specs.Limits.{max_opcode}
 use Rattle.lifting.specs.References.{named, inst_fits, control_holds, references_hold}
 use Rattle.func.specs.Layout.{regions}
 use Rattle.func.specs.Decode.{func_of}
-use Rattle.func.specs.Tables.{Tables, ctrl_line_of, region_total}
+use Rattle.func.specs.Tables.{Tables, ctrl_line_of}
+use Rattle.func.proofs.Tables.{region_total}
 use Rattle.walk_roots.specs.Tables.{RegionsNamed, no_line}
 
 pub refer_below : (F : Func) → references_hold F ≡ true → every (λ r. ltb r (length F.regions)) (child_list F ++ ctrl_regions F) ≡ true

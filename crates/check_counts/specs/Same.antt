@@ -25,8 +25,10 @@ use Rattle.func.specs.Store.{count, view}
 use Rattle.func.specs.Keep.{one_word, node_number}
 use Rattle.func.specs.Decode.{decode_number}
 use Rattle.func.specs.Whole.{collections, sizes}
-use Rattle.func.specs.Tables.{Listed, word, list_count, item_is}
-use Rattle.func.specs.Stored.{Stored, stored_nodes, ins_count, results_count, stored_kind, values_count, stored_children, outs_count, unsingle}
+use Rattle.func.specs.Tables.{Listed, word}
+use Rattle.func.proofs.Tables.{list_count, item_is}
+use Rattle.func.specs.Stored.{Stored}
+use Rattle.func.proofs.Stored.{stored_nodes, ins_count, results_count, stored_kind, values_count, stored_children, outs_count, unsingle}
 use Rattle.general_laws.specs.Tests.{every_all, both}
 use Rattle.general_laws.specs.Fewer.{fewer_below, fits}
 use Rattle.check_counts.specs.Numbered.{every_numbered}

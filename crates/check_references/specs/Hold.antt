@@ -16,15 +16,18 @@ use Rattle.lifting.specs.Ast.{Value, const, region_input, node_output, data_inst
 use Rattle.lifting.specs.Parts.{outs_of, node_insts, op_insts, ctrl_insts, callee_ids}
 use Rattle.lifting.specs.Parts as text
 use Rattle.lifting.specs.References.{named, imm_fits, inst_fits, control_holds, references_hold}
-use Rattle.func.specs.Layout.{pool_total, consts, params, decls, values, imms, targets, node_refs, op_refs, child_refs, entries, regions, nodes, ops, ctrls, inside, entry_room, entry_room_law}
+use Rattle.func.specs.Layout.{pool_total, consts, params, decls, values, imms, targets, node_refs, op_refs, child_refs, entries, regions, nodes, ops, ctrls, entry_room}
+use Rattle.func.proofs.Pools.{inside, entry_room_law}
 use Rattle.func.specs.Store.{count, most, view}
 use Rattle.func.specs.Adds.{largest}
 use Rattle.func.specs.Keep.{one_word, const_words, decl_words, value_words, imm_words, inst_opcode, op_number, op_first, node_cells, op_cells}
 use Rattle.func.specs.Decode.{decode_number}
 use Rattle.func.specs.Whole.{collections, sizes, entry_list}
-use Rattle.func.specs.Back.{lowered, value_lowered}
+use Rattle.func.specs.Back.{lowered}
+use Rattle.func.proofs.Back.{value_lowered}
 use Rattle.func.specs.Tables.{word}
-use Rattle.func.specs.Stored.{Stored, ins_count, outs_count, op_type}
+use Rattle.func.specs.Stored.{Stored}
+use Rattle.func.proofs.Stored.{ins_count, outs_count, op_type}
 use Rattle.check_rules.specs.declared.Rule.{Rule}
 use Rattle.check_rules.specs.declared.Rule.TheVariants.{Named, ConstId, ParamType, DeclType, Callee, ConstOpcode, ImmFits, NodeControl, NodeInst, OpInst}
 use Rattle.general_laws.specs.Every.{every_append, every_gather, every_map, every_keys, every_same, every_both}

@@ -7,7 +7,8 @@ use lib.Dec.{lit<}
 use lib.ListN.{length, get_or}
 use Rattle.func.specs.Layout.{pool_total}
 use Rattle.func.specs.Store.{count, view}
-use Rattle.func.specs.Tables.{Within, whole_pool}
+use Rattle.func.specs.Tables.{Within}
+use Rattle.func.proofs.Tables.{whole_pool}
 use Rattle.check_rules.specs.declared.Rule.{Rule}
 use Rattle.check_rules.specs.declared.Rule.TheVariants.{Named, ConstId, ParamType, DeclType, Callee, ConstOpcode, ImmFits, NodeControl, NodeInst, OpInst}
 use Rattle.check_rules.specs.Test.{pool_for, rule_test, rule_fits}

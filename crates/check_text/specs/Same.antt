@@ -23,10 +23,13 @@ use Rattle.func.specs.Layout.{entries, ctrls}
 use Rattle.func.specs.Store.{count}
 use Rattle.func.specs.Keep.{keep_func}
 use Rattle.func.specs.Whole.{Clear}
-use Rattle.func.specs.Stored.{Stored, stored_func}
+use Rattle.func.specs.Stored.{Stored}
+use Rattle.func.proofs.Stored.{stored_func}
 use Rattle.func.specs.Decode.{func_of}
-use Rattle.func.specs.Back.{RowFits, func_back}
-use Rattle.func.specs.Tables.{Tables, tables_func}
+use Rattle.func.specs.Back.{RowFits}
+use Rattle.func.proofs.Back.{func_back}
+use Rattle.func.specs.Tables.{Tables}
+use Rattle.func.proofs.Tables.{tables_func}
 use Rattle.func_fits.specs.Parsed.{Few, fits_few, few_control}
 use Rattle.check_limits.specs.Limits.{limits_test}
 use Rattle.check_insts.specs.Test.{opcode_fits}

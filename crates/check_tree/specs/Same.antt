@@ -21,12 +21,15 @@ use Rattle.lifting.specs.References.{named, inst_fits, control_holds, references
 use Rattle.lifting.specs.Tree.{stands_once, holds, some_if, parent_below, parent_of, around, around_itself, roots_have_ways_out, is_tree}
 use Rattle.general_laws.specs.Gather.{gather_same}
 use Rattle.func.specs.Layout.{node_refs, op_refs, child_refs, regions, nodes, ops, ctrls, entry_room}
-use Rattle.func.specs.Store.{count, view, length_view}
+use Rattle.func.specs.Store.{count, view}
+use Rattle.func.proofs.Store.{length_view}
 use Rattle.func.specs.Keep.{one_word}
 use Rattle.func.specs.Decode.{decode_number}
 use Rattle.func.specs.Whole.{collections, sizes}
-use Rattle.func.specs.Tables.{Listed, word, list_count, item_is}
-use Rattle.func.specs.Stored.{Stored, stored_nodes, stored_children, unsingle}
+use Rattle.func.specs.Tables.{Listed, word}
+use Rattle.func.proofs.Tables.{list_count, item_is}
+use Rattle.func.specs.Stored.{Stored}
+use Rattle.func.proofs.Stored.{stored_nodes, stored_children, unsingle}
 use Rattle.general_laws.specs.Fewer.{fits}
 use Rattle.check_marks.specs.Once.{Below, within_same, within_other, tab_same_test, once, once_back}
 use Rattle.check_marks.specs.Test.{pool_numbers, refs, once_test, child_fit, child_test, node_refs_in, child_refs_in, kids, parent_in, climbs, acyclic, cycle_test, tree_test, Refs, TreeSafe}

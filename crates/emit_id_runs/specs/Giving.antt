@@ -14,7 +14,8 @@ use Rattle.lifting.specs.Points.{CfgPoint}
 use Rattle.lifting.specs.Walk.{walk_of}
 use Rattle.lifting.specs.Ids.{Name, result_of, value}
 use Rattle.func.specs.Decode.{func_of}
-use Rattle.func.specs.Tables.{Tables, few_ops}
+use Rattle.func.specs.Tables.{Tables}
+use Rattle.func.proofs.Tables.{few_ops}
 use Rattle.work.specs.Layout.{statuses_at, ids_end, work_need}
 use Rattle.lifting_blocks.specs.Flat.{up_to}
 use Rattle.walk_points.specs.Walk.{Walkable, few_nodes}

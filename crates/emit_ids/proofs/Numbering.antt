@@ -10,7 +10,7 @@ use lib.ListN.{get_or, length, length-append}
 use Rattle.lifting.specs.Limits.{highest_id}
 use Rattle.lifting.specs.Ast.{Func, region_input}
 use Rattle.lifting.specs.Ids.{Name, next_id, the_function}
-use Rattle.func.specs.Tables.{few_params}
+use Rattle.func.proofs.Tables.{few_params}
 use Rattle.func.specs.Decode.{func_of}
 use Rattle.general_laws.specs.Members.{length_tabulate}
 use Rattle.work.specs.Layout.{ids_at, input_ids_at, ids_end}

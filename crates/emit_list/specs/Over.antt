@@ -5,7 +5,8 @@ use Rattle.std.specs.Prelude.{◌≡◌, true, List, ℕ}
 use Rattle.lifting.specs.Ast.{Func}
 use Rattle.lifting.specs.Parts.{has_body}
 use Rattle.func.specs.Decode.{func_of}
-use Rattle.lifting_runs.specs.Shaped.{Shaped, shaped_checked}
+use Rattle.lifting_runs.specs.Shaped.{Shaped}
+use Rattle.lifting_runs.proofs.Shaped.{shaped_checked}
 use Rattle.check_text.specs.Same.{Passes}
 use Rattle.emit_edge_ends.specs.Links.{Linked}
 use Rattle.emit_insts.specs.Ready.{EmitReady}

@@ -23,7 +23,7 @@ use Rattle.lifting_blocks.specs.ListFlat.{writing}
 use Rattle.lifting_blocks.specs.Laws as flat
 use Rattle.general_laws.specs.Gather.{gather_append}
 use Rattle.lifting_runs.specs.Shaped.{Shaped}
-use Rattle.lifting_runs.specs.EveryText.{walk_none}
+use Rattle.lifting_runs.proofs.EveryText.{walk_none}
 use Rattle.terminators.specs.At.{visited_block, point_at}
 use Rattle.block_absorbs.specs.Absorbs.{absorbs, stands}
 use Rattle.lifting.specs.Ids.{id_of}

@@ -12,7 +12,8 @@ use Rattle.lifting.specs.Parts.{children_of, node_of, node_values, outs_of, regi
 use Rattle.lifting.specs.Points.{BlockLifting, CfgPoint, Terminator, node_entry, node_exit, region_entry}
 use Rattle.lifting.specs.Walk.{Place, entry_decls, entry_keys, in_block, in_node, some_vals, top}
 use Rattle.func.specs.Decode.{func_of}
-use Rattle.func.specs.Tables.{ctrl_line_of, list_count, node_values_law}
+use Rattle.func.specs.Tables.{ctrl_line_of}
+use Rattle.func.proofs.Tables.{list_count, node_values_law}
 use Rattle.func.specs.Kinds.{decl_from}
 use Rattle.general_laws.specs.Members.{length_tabulate}
 use Rattle.terminators.specs.At.{visited_block, block_of, place_in, point_at}

@@ -7,7 +7,8 @@ use Rattle.std.specs.Prelude.{◌≡◌, refl, List, [], ◌∷◌, ℕ, zero, s
 use Rattle.std.proofs.Common.{sym, ap, subst, ◌∙◌, arith}
 use Rattle.lifting.specs.Ast.{Value, const}
 use Rattle.func.specs.Decode.{first_value}
-use Rattle.func.specs.Tables.{Listed, list_count}
+use Rattle.func.specs.Tables.{Listed}
+use Rattle.func.proofs.Tables.{list_count}
 
 pub list_back : {L A : Type 0} (f : L → A) {x y : L} → x ≡ y → {a : A} → a ≡ f y → a ≡ f x
 list_back f g e = e ∙ sym (ap f g)

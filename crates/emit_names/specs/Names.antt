@@ -25,7 +25,8 @@ use Rattle.lifting.specs.Ids.{Name, label, names, param_keys, phi_keys, result_o
 use Rattle.func.specs.Layout.{ops, params}
 use Rattle.general_laws.specs.Gather.{map_append, gather_none}
 use Rattle.func.specs.Decode.{func_of}
-use Rattle.func.specs.Tables.{Tables, list_count, node_ops, node_outs, region_ins, few_ops, few_params}
+use Rattle.func.specs.Tables.{Tables}
+use Rattle.func.proofs.Tables.{list_count, node_ops, node_outs, region_ins, few_ops, few_params}
 use Rattle.general_laws.specs.Members.{All, In, NoDup, all_append, here, length_tabulate, map_in, map_tabulate, nodup_map, nodup_tabulate}
 use Rattle.general_laws.specs.Tests.{all_tabulate}
 use Rattle.work.specs.Layout.{input_ids_at, output_ids_at, ids_end}

@@ -18,8 +18,8 @@ use Rattle.lifting.specs.Answer.{ids_fit, is_set, used_values, values_set}
 use Rattle.general_laws.specs.Members.{all_in, here, there}
 use Rattle.lifting_runs.specs.Refers.{Refers, refers}
 use Rattle.lifting_runs.specs.Fits as fits
-use Rattle.lifting_runs.specs.Shaped.{shaped_checked}
-use Rattle.lifting_runs.specs.EveryText.{walk_none}
+use Rattle.lifting_runs.proofs.Shaped.{shaped_checked}
+use Rattle.lifting_runs.proofs.EveryText.{walk_none}
 use Rattle.lifting_blocks.specs.Laws as flat
 use Rattle.check_text.specs.Same.{Passes}
 use Rattle.emit_words.specs.declared.Cursor.{Cursor}

@@ -11,7 +11,7 @@ use Rattle.lifting.specs.Instructions.{list_of}
 use Rattle.lifting.specs.Words.{words}
 use Rattle.lifting.specs.Answer.{ids_fit, values_set}
 use Rattle.lifting_sizes.specs.Weights.{max_words}
-use Rattle.lifting_sizes.specs.Bound.{text_bound}
+use Rattle.lifting_sizes.proofs.Bound.{text_bound}
 use Rattle.check_text.specs.Same.{Passes}
 use Rattle.emit_values.specs.Given.{all_given, given_set}
 

@@ -15,7 +15,7 @@ use Rattle.lifting.specs.Parts.{const_of, node_of, op_of, outs_of, region_of}
 use Rattle.lifting.specs.Walk.{walk_of}
 use Rattle.lifting.specs.Absorb.{kept}
 use Rattle.lifting.specs.Ids.{Name, id_of, value}
-use Rattle.func.specs.Tables.{few_ops}
+use Rattle.func.proofs.Tables.{few_ops}
 use Rattle.func.specs.Decode.{func_of}
 use Rattle.lifting_runs.specs.Ids.{id_const}
 use Rattle.work.specs.Layout.{input_ids_at, output_ids_at, result_ids_at, ids_end}

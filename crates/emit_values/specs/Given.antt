@@ -14,7 +14,7 @@ use Rattle.lifting.specs.Answer.{ids_fit, values_set}
 use Rattle.lifting_runs.specs.Refers.{Named, refers}
 use Rattle.lifting_runs.specs.Used.{all_values_set}
 use Rattle.lifting_runs.specs.Fits as fits
-use Rattle.lifting_runs.specs.Shaped.{shaped_checked}
+use Rattle.lifting_runs.proofs.Shaped.{shaped_checked}
 use Rattle.lifting_blocks.specs.SetIds.{set_of_id}
 use Rattle.check_text.specs.Same.{Passes}
 use Rattle.emit_names.specs.Ids.{id_in}

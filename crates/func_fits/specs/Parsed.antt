@@ -21,8 +21,10 @@ use Rattle.general_laws.specs.Members.{In, All, in_within}
 use Rattle.general_laws.specs.Tests.{both, every_in, every_all, all_split, distinct_once}
 use Rattle.func.specs.Whole.{Clear, entry_list}
 use Rattle.func.specs.Keep.{keep_func}
-use Rattle.func.specs.Back.{first_fits, RowFits, Limits, limits_of}
-use Rattle.func.specs.Tables.{Tables, tables_func}
+use Rattle.func.specs.Back.{first_fits, RowFits, Limits}
+use Rattle.func.proofs.Back.{limits_of}
+use Rattle.func.specs.Tables.{Tables}
+use Rattle.func.proofs.Tables.{tables_func}
 use Rattle.general_laws.specs.Fewer.{fewer, fewer_below}
 
 -- a line that holds something is one of the list's

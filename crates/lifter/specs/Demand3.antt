@@ -25,12 +25,14 @@ use Rattle.lifting.specs.Runs.{AlikeRuns, TrueConstants}
 use Rattle.general_laws.specs.Members.{All, In}
 use Rattle.lifting_runs.specs.ListIds.{RunOn, given_ids}
 use Rattle.lifting_runs.specs.ListPhis.{PhiPairs, phi_ids}
-use Rattle.lifting_runs.specs.Demand3.{demand_3, never_stuck}
-use Rattle.lifting_runs.specs.Controls.{SameButControls, regions_of_another}
+use Rattle.lifting_runs.proofs.Demand3.{demand_3, never_stuck}
+use Rattle.lifting_runs.specs.Controls.{SameButControls}
+use Rattle.lifting_runs.proofs.Controls.{regions_of_another}
 use Rattle.lifting_blocks.specs.Below.{IdsBelow}
 use Rattle.lifting_blocks.specs.Labels.{LabelsDiffer}
 use Rattle.lifting_blocks.specs.Merges.{OwnControl}
-use Rattle.lifting_blocks.specs.Demand2.{list_below, list_controls, list_ids, list_labels, list_phis}
+use Rattle.lifting_blocks.specs.Demand2.{list_below, list_ids, list_phis}
+use Rattle.lifting_blocks.proofs.Demand2.{list_controls, list_labels}
 use Rattle.results.specs.declared.Lifted.TheVariants.{Whole}
 use Rattle.emit_output.specs.Emit.{gives, outcome, told}
 

@@ -8,7 +8,8 @@ use Rattle.std.proofs.Math.Seq.{take-nil}
 use Rattle.command.specs.declared.Command.{Command}
 use Rattle.command.specs.declared.Command.TheVariants.{Lift, Read, Blocks, Help, Unknown}
 use Rattle.command.specs.Opened.{line_room, opened_cut, opened_low, opened_of}
-use Rattle.read_first.specs.Cut.{input_room, parse_cut}
+use Rattle.read_first.specs.Cut.{input_room}
+use Rattle.read_first.proofs.Cut.{parse_cut}
 use Rattle.read_input.specs.Known.{known_for, text_decides}
 use Rattle.print_room.specs.Most.{lent}
 use Rattle.print_lifted.specs.Input.{bytes_cut, bytes_known}

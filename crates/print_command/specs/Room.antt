@@ -9,7 +9,7 @@ use Rattle.command.specs.Opened.{opened_of}
 use Rattle.print_room.specs.Most.{lent, max_case, max_printed}
 use Rattle.print_lifted.specs.Room.{input_room_law}
 use Rattle.print_refusal.specs.Line.{read_room}
-use Rattle.print_lines.specs.Room.{text_room_law}
+use Rattle.print_lines.proofs.Room.{text_room_law}
 use Rattle.print_command.specs.Printed.{case_bytes, command_bytes, help_bytes, printed_for, unknown_bytes}
 
 pub printed_room : (command : Command) (input : List ℕ) → length (printed_for command input) ≤ max_printed

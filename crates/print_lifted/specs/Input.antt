@@ -20,7 +20,8 @@ use Rattle.read_cursor.specs.Read.{Moves, Reads, rest_from}
 use Rattle.read_first.specs.declared.First.{First}
 use Rattle.read_first.specs.declared.First.TheVariants.{At, Bad}
 use Rattle.read_first.specs.Opening.{first_line_form, first_answer}
-use Rattle.read_first.specs.Cut.{ByText, answer_cut, input_cut, input_room}
+use Rattle.read_first.specs.Cut.{ByText, input_room}
+use Rattle.read_first.proofs.Cut.{answer_cut, input_cut}
 use Rattle.read_input.specs.Known.{known_decides, known_by}
 
 -- It prints opcode, attributes, result type, result id, immediates, ids. A refusal prints `(refused N)`.

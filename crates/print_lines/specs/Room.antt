@@ -17,9 +17,10 @@ use Rattle.lifting.specs.Points.{BlockLifting, CfgPoint, Table, Terminator, node
 use Rattle.lifting.specs.Walk.{walk_of}
 use Rattle.lifting.specs.Absorb.{labels, merge_labels, use_count}
 use Rattle.lifting.specs.Answer.{parse}
-use Rattle.func.specs.Back.{limits_of}
+use Rattle.func.proofs.Back.{limits_of}
 use Rattle.lifting_runs.specs.Refers.{refers}
-use Rattle.lifting_runs.specs.Shaped.{Shaped, shaped_checked}
+use Rattle.lifting_runs.specs.Shaped.{Shaped}
+use Rattle.lifting_runs.proofs.Shaped.{shaped_checked}
 use Rattle.lifting_blocks.specs.Flat.{Status, goes, gone, no_pair, starts, up_to}
 use Rattle.lifting_blocks.specs.Totals.{all_labels}
 use Rattle.lifting_sizes.specs.Sums.{length_gather, total_ones, total_plus, total_scale, total_up_to}

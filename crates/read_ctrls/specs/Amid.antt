@@ -16,15 +16,19 @@ use Rattle.lifting.specs.Ast.{Value, Region, ControlInst, Func}
 use Rattle.lifting.specs.Parts.{region_of}
 use Rattle.lifting.specs.Parts as text
 use Rattle.general_laws.specs.Gather.{gather_none}
-use Rattle.func.specs.Layout.{pool_total, decls, values, targets, entries, regions, ctrls, shapes, lay, pools, pool_of, width, room, entry_room_law}
+use Rattle.func.specs.Layout.{pool_total, decls, values, targets, entries, regions, ctrls, shapes, lay, pools, pool_of, width, room}
+use Rattle.func.proofs.Pools.{entry_room_law}
 use Rattle.func.specs.Store.{count, view, push, folds}
-use Rattle.func.specs.Adds.{AddsReady, Adds, ready_after, adds_then, into_pool, adds_push, adds_many, grown, adds_folds, grown_none}
+use Rattle.func.specs.Adds.{AddsReady, Adds, into_pool, grown}
+use Rattle.func.proofs.Adds.{ready_after, adds_then, adds_push, adds_many, adds_folds, grown_none}
 use Rattle.func.specs.Lines.{keep_cells, gained, line_gain}
 use Rattle.func.specs.Keep.{value_words, entry_cells, ctrl_cells, keep_value, keep_entry, keep_ctrl}
 use Rattle.func.specs.Rows.{entry_row, keep_entry_is, ctrl_row_from, keep_ctrl_lists, keep_ctrl_is}
-use Rattle.func.specs.Gains.{entry_line, gain, entry_gain, adds_entry, adds_ctrl_cells, entries_at, ctrl_gain, adds_ctrl}
+use Rattle.func.specs.Gains.{gain, entry_gain, ctrl_gain}
+use Rattle.func.proofs.Gains.{entry_line, adds_entry, adds_ctrl_cells, entries_at, adds_ctrl}
 use Rattle.func.specs.Tables.{word}
-use Rattle.func.specs.Stored.{Stored, ins_count}
+use Rattle.func.specs.Stored.{Stored}
+use Rattle.func.proofs.Stored.{ins_count}
 use Rattle.check_edges.specs.Edges.{ins_of}
 
 -- the words v come before the words t, and no region comes between

@@ -17,16 +17,22 @@ use Rattle.lifting.specs.Parts.{region_of, vals_for, ctrl_insts}
 use Rattle.lifting.specs.Counts.{edges_fit}
 use Rattle.check_insts.specs.Test.{opcode_fits}
 use Rattle.general_laws.specs.Every.{every_append, every_same}
-use Rattle.func.specs.Layout.{values, targets, entry_room_law}
-use Rattle.func.specs.Store.{count, view, folds, length_view}
-use Rattle.func.specs.Adds.{AddsReady, Adds, ready_after, adds_then, into_pool, grown, grown_none}
+use Rattle.func.specs.Layout.{values, targets}
+use Rattle.func.proofs.Pools.{entry_room_law}
+use Rattle.func.specs.Store.{count, view, folds}
+use Rattle.func.proofs.Store.{length_view}
+use Rattle.func.specs.Adds.{AddsReady, Adds, into_pool, grown}
+use Rattle.func.proofs.Adds.{ready_after, adds_then, grown_none}
 use Rattle.func.specs.Lines.{gained, line_gain}
 use Rattle.func.specs.Keep.{one_word, value_words, entry_cells, ctrl_cells, keep_value, keep_entry, keep_ctrl, keep_func}
 use Rattle.func.specs.Rows.{keep_ctrl_lists}
-use Rattle.func.specs.Gains.{gain, entry_gain, adds_entry, adds_ctrl}
+use Rattle.func.specs.Gains.{gain, entry_gain}
+use Rattle.func.proofs.Gains.{adds_entry, adds_ctrl}
 use Rattle.func.specs.Tables.{word}
-use Rattle.func.specs.Whole.{Clear, with_ops, with_nodes, with_regions, with_params, with_consts, headed, ready_clear, clear_head, stages}
-use Rattle.func.specs.Stored.{Stored, stored_func}
+use Rattle.func.specs.Whole.{Clear, with_ops, with_nodes, with_regions, with_params, with_consts, headed}
+use Rattle.func.proofs.Whole.{ready_clear, clear_head, stages}
+use Rattle.func.specs.Stored.{Stored}
+use Rattle.func.proofs.Stored.{stored_func}
 use Rattle.check_edges.specs.Edges.{ins_of, entry_fits, Edges, keep_edge, target_entered, targets_fit}
 use Rattle.read_ctrls.specs.Judge.{State, judged_edges, keep_judged, start}
 use Rattle.read_ctrls.specs.Marked.{Low, low_next, low_entries, marked, edge_by_marks}

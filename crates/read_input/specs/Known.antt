@@ -15,7 +15,8 @@ use Rattle.command.specs.declared.Command.TheVariants.{Lift, Read, Blocks, Help,
 use Rattle.read_first.specs.declared.First.{First}
 use Rattle.read_first.specs.declared.First.TheVariants.{At, Bad}
 use Rattle.read_first.specs.Opening.{first_line_form, first_answer}
-use Rattle.read_first.specs.Cut.{ByText, bad_stays, input_more, input_room, longest_line, parse_cut, text_room}
+use Rattle.read_first.specs.Cut.{ByText, input_room, longest_line, text_room}
+use Rattle.read_first.proofs.Cut.{bad_stays, input_more, parse_cut}
 
 -- a bad first line
 abbrev pub is_bad : Option (ℕ × List ℕ) → Bool

@@ -30,13 +30,15 @@ use Rattle.check_counts.specs.Test.{counts_test}
 use Rattle.func.specs.Decode.{func_of}
 use Rattle.func.specs.Keep.{keep_func}
 use Rattle.work.specs.Layout.{work_need}
-use Rattle.func.specs.Whole.{Clear, empty_pools, clear_empty}
+use Rattle.func.specs.Whole.{Clear, empty_pools}
+use Rattle.func.proofs.Whole.{clear_empty}
 use Rattle.read_ctrls.specs.Same.{opcodes_judged, edges_judged}
 use Rattle.read_text.specs.Whole.{Text}
 use Rattle.results.specs.declared.Parsed.{Parsed}
 use Rattle.results.specs.declared.Parsed.TheVariants.{Function, Refused}
 use Rattle.check_text.specs.Test.{judge, few_test, checks_test, ChecksSafe}
-use Rattle.check_text.specs.Same.{verdict, checks_safe, checks_same, passes, Stands, stands_back}
+use Rattle.check_text.specs.Same.{verdict, Stands}
+use Rattle.check_text.proofs.Same.{checks_safe, checks_same, passes, stands_back}
 use Rattle.reader.specs.Parse.{answer_of, func_after, work_after, Unentered, enough_test, kept_after, Judges}
 
 -- `parse` by its first two tests

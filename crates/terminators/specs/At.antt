@@ -12,7 +12,7 @@ use Rattle.lifting.specs.Walk.{Place, entry_block, exit_block, in_block, in_node
 use Rattle.general_laws.specs.Members.{In, here, in_nil}
 use Rattle.lifting_runs.specs.Places as places
 use Rattle.lifting_runs.specs.TourLaid.{suffix_in}
-use Rattle.lifting_runs.specs.Shaped.{visited_low}
+use Rattle.lifting_runs.proofs.Shaped.{visited_low}
 use Rattle.lifting_blocks.specs.Flat.{no_pair}
 use Rattle.lifting_blocks.specs.Chain.{first_in_table}
 use Rattle.lifting_blocks.specs.Steps.{PlacedAs, Step, placed_as, step_entry, step_exit, step_in, step_out}

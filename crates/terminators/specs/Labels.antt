@@ -14,7 +14,8 @@ use Rattle.lifting.specs.Points.{CfgPoint, Merge, Terminator, loop_merge, no_mer
 use Rattle.lifting.specs.Walk.{in_block, some_vals, line_term}
 use Rattle.lifting.specs.Absorb.{if_branch, if_empty, if_zero, labels, merge_labels, the_only, sole_target}
 use Rattle.func.specs.Decode.{func_of}
-use Rattle.func.specs.Tables.{ctrl_line_of, ctrl_targets, list_count, node_children}
+use Rattle.func.specs.Tables.{ctrl_line_of}
+use Rattle.func.proofs.Tables.{ctrl_targets, list_count, node_children}
 use Rattle.func.specs.Kinds.{ctrl_kind}
 use Rattle.walk_points.specs.Numbers.{number_back, point_number}
 use Rattle.terminators.specs.declared.TermKind.{TermKind}

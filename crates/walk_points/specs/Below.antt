@@ -19,7 +19,8 @@ use Rattle.general_laws.specs.Gather.{map_append, map_gather}
 use Rattle.general_laws.specs.Members.{In, here, there, All, all_append}
 use Rattle.general_laws.specs.Tests.{all_gather}
 use Rattle.lifting_runs.specs.Tour.{Tree, points_append}
-use Rattle.lifting_runs.specs.Shaped.{Shaped, tree, walk_is}
+use Rattle.lifting_runs.specs.Shaped.{Shaped}
+use Rattle.lifting_runs.proofs.Shaped.{tree, walk_is}
 use Rattle.walk_points.specs.Numbers.{point_number, Small}
 
 module _ (F : Func) where

@@ -15,12 +15,14 @@ use Rattle.lifting.specs.Points.{Table, points}
 use Rattle.lifting.specs.Walk.{walk_of}
 use Rattle.func.specs.Layout.{nodes}
 use Rattle.func.specs.Decode.{func_of}
-use Rattle.func.specs.Tables.{Tables, node_total}
+use Rattle.func.specs.Tables.{Tables}
+use Rattle.func.proofs.Tables.{node_total}
 use Rattle.general_laws.specs.Members.{In, All, all_in}
 use Rattle.general_laws.specs.Tests.{all_gather, in_at}
 use Rattle.lifting_runs.specs.Refers.{refers}
 use Rattle.lifting_runs.specs.Order.{roots_visited}
-use Rattle.lifting_runs.specs.Shaped.{Shaped, shaped_checked, visited_low, walk_once}
+use Rattle.lifting_runs.specs.Shaped.{Shaped}
+use Rattle.lifting_runs.proofs.Shaped.{shaped_checked, visited_low, walk_once}
 use Rattle.work.specs.Layout.{points_at, points_end}
 use Rattle.walk_roots.specs.Tables.{RegionsNamed}
 use Rattle.check_control.specs.Meets.{named_refers}

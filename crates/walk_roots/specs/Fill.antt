@@ -10,7 +10,8 @@ use Rattle.lifting.specs.Parts.{node_of, children_of, child_list}
 use Rattle.lifting.specs.Control.{is_root}
 use Rattle.func.specs.Decode.{func_of}
 use Rattle.func.specs.Layout.{ctrls}
-use Rattle.func.specs.Tables.{Tables, ctrl_line_of, ctrl_total}
+use Rattle.func.specs.Tables.{Tables, ctrl_line_of}
+use Rattle.func.proofs.Tables.{ctrl_total}
 use Rattle.work.specs.Layout.{lines_at, children_at, tables_end, marks_at}
 use Rattle.work.specs.Aside.{Aside, aside_none, aside_more, aside_set}
 use Rattle.walk_roots.specs.Tables.{RegionsNamed, TablesBlank, LinesFrom, Indexed, RegionsMarked, blank_lines, marked_more, drop_one, line_words_more, once_more}

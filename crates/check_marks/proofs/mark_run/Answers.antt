@@ -3,7 +3,7 @@ use mathlib.Core.Path.{refl, sym, ap, ◌∙◌}
 use Prim.Native.Nat.{◌<◌, ◌+◌, ◌-◌}
 use native.Mathlib.Omega.{arith}
 use lib.ListN.{length, length-set}
-use Rattle.func.specs.Layout.{entry_room_law, inside}
+use Rattle.func.proofs.Pools.{entry_room_law, inside}
 use Rattle.func.specs.Tables.{Within}
 use Rattle.check_marks.specs.Marks.{mark_all, mark_turn, mark_done, numbers_first, numbers_done}
 use Rattle.check_marks.proofs.mark_run.Goals as goal

@@ -3,7 +3,7 @@ use mathlib.Core.Path.{◌≡◌, refl, sym, ◌∙◌}
 use Prim.Native.Nat.{◌≤◌}
 use native.Mathlib.Omega.{arith}
 use lib.ListN.{length}
-use Rattle.func.specs.Layout.{entry_room_law, inside}
+use Rattle.func.proofs.Pools.{entry_room_law, inside}
 use Rattle.func.specs.Store.{count}
 use Rattle.check_once.proofs.Laws.{refs_run, fresh_refs, once_not, once_is}
 use Rattle.check_once.proofs.stands_once.Goals as goal

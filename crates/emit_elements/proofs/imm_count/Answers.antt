@@ -1,7 +1,7 @@
 -- Each list of immediates is counted where it stands (`list_total`), in a run, which is at most 4095 long; none count 0 and a short one counts 1.
 use mathlib.Core.Path.{subst}
 use Rattle.func.specs.Decode.{func_of}
-use Rattle.func.specs.Tables.{ctrl_imms, node_imms, op_imms_law}
+use Rattle.func.proofs.Tables.{ctrl_imms, node_imms, op_imms_law}
 use Rattle.emit_lists.specs.Named.{ImmsFit, listed_imms}
 use Rattle.emit_lists.specs.Laws.{list_total}
 use Rattle.emit_elements.proofs.imm_count.Goals as goal

@@ -1,7 +1,7 @@
 -- Each list of values is counted where it stands (`list_total`), in a run, which is at most 4095 long; none count 0 and a test counts 1.
 use mathlib.Core.Path.{subst}
 use Rattle.func.specs.Decode.{func_of}
-use Rattle.func.specs.Tables.{ctrl_ins, node_values_law, op_operands, region_outs}
+use Rattle.func.proofs.Tables.{ctrl_ins, node_values_law, op_operands, region_outs}
 use Rattle.emit_lists.specs.Named.{ValuesFit, values_of}
 use Rattle.emit_lists.specs.Laws.{list_total}
 use Rattle.emit_elements.proofs.value_count.Goals as goal

@@ -8,7 +8,7 @@ use Rattle.func.specs.Decode.{func_of}
 use Rattle.emit_words.specs.Put.{put_same}
 use Rattle.emit_insts.specs.Parts.{front_same}
 use Rattle.emit_list.specs.Points.{param_items_law}
-use Rattle.func.specs.Tables.{few_params}
+use Rattle.func.proofs.Tables.{few_params}
 use Rattle.emit_list.proofs.put_param.Goals as goal
 
 pub overflow_cast-result : goal.overflow_cast-result

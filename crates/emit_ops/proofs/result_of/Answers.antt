@@ -1,7 +1,7 @@
 -- Type 0 has no result, and of any other type the word of op o in the table of results is its id (`result_is`).
 use mathlib.Core.Path.{◌∙◌}
 use native.Mathlib.Omega.{arith}
-use Rattle.func.specs.Tables.{few_ops}
+use Rattle.func.proofs.Tables.{few_ops}
 use Rattle.emit_insts.specs.Ready.{result_is}
 use Rattle.emit_ops.proofs.result_of.Goals as goal
 

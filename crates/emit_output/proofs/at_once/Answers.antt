@@ -4,7 +4,7 @@ use lib.ListN.{length}
 use borrow.Author.Tests.{le-leb}
 use Rattle.lifting.specs.Instructions.{list_of}
 use Rattle.func.specs.Decode.{func_of}
-use Rattle.lifting_sizes.specs.Bound.{text_bound}
+use Rattle.lifting_sizes.proofs.Bound.{text_bound}
 use Rattle.emit_output.specs.Listed.{count_is, list_stands}
 use Rattle.emit_output.specs.Sure.{sure_room, sure_set}
 use Rattle.emit_output.proofs.Giving.{gives_list}

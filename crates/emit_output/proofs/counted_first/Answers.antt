@@ -8,7 +8,7 @@ use Rattle.refusals.specs.declared.Refusal.TheVariants.{Values}
 use Rattle.lifting.specs.Instructions.{list_of}
 use Rattle.lifting.specs.Words.{words}
 use Rattle.func.specs.Decode.{func_of}
-use Rattle.lifting_sizes.specs.Bound.{text_bound}
+use Rattle.lifting_sizes.proofs.Bound.{text_bound}
 use Rattle.emit_output.specs.Emit.{wants_not}
 use Rattle.emit_output.specs.Listed.{count_is, list_stands, room_is}
 use Rattle.emit_output.proofs.Giving.{gives_list, gives_room, gives_values, missing_any, missing_none}

@@ -9,7 +9,7 @@ use Rattle.lifting.specs.Ast.{const}
 use Rattle.lifting.specs.Parts.{values}
 use Rattle.lifting.specs.References.{named}
 use Rattle.func.specs.Decode.{func_of}
-use Rattle.func.specs.Tables.{value_at, value_count, value_within}
+use Rattle.func.proofs.Tables.{value_at, value_count, value_within}
 use Rattle.emit_value_ids.specs.Later.{known_stands}
 use Rattle.emit_values.specs.Given.{all_given, given_no, given_yes, is_given, value_named}
 use Rattle.emit_values.proofs.all_given.Goals as goal

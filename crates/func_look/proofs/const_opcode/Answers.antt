@@ -2,7 +2,7 @@
 use mathlib.Core.Path.{sym, ap, ◌∙◌}
 use lib.Dec.{lit<}
 use Rattle.lifting.specs.Ast.{Const}
-use Rattle.func.specs.Tables.{const_in, const_is}
+use Rattle.func.proofs.Tables.{const_in, const_is}
 use Rattle.func_look.proofs.const_opcode.Goals as goal
 
 pub word-requires : goal.word-requires

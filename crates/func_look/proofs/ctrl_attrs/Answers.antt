@@ -1,7 +1,7 @@
 -- The attributes of a ctrl line are word 1 of its row (`ctrl_words_are`).
 use mathlib.Core.Path.{◌∙◌}
 use lib.Dec.{lit<}
-use Rattle.func.specs.Tables.{ctrl_in, ctrl_words_are}
+use Rattle.func.proofs.Tables.{ctrl_in, ctrl_words_are}
 use Rattle.func_look.proofs.ctrl_attrs.Goals as goal
 
 pub word-requires : goal.word-requires

@@ -3,7 +3,7 @@
 use mathlib.Core.Path.{◌∙◌}
 use lib.Dec.{lit<}
 use Rattle.lifting.specs.Ast.{const}
-use Rattle.func.specs.Tables.{ctrl_in, ctrl_ins, item_low, item_in, value_is, ins_kept}
+use Rattle.func.proofs.Tables.{ctrl_in, ctrl_ins, item_low, item_in, value_is, ins_kept}
 use Rattle.func_look.proofs.ctrl_in.Goals as goal
 
 pub run_at-requires : goal.run_at-requires

@@ -1,7 +1,7 @@
 -- The row holds the run of a ctrl line's inputs (`ctrl_ins`), whose length is the list's (`list_count`).
 use mathlib.Core.Path.{◌∙◌}
 use lib.Dec.{lit<}
-use Rattle.func.specs.Tables.{ctrl_in, ctrl_ins, list_count}
+use Rattle.func.proofs.Tables.{ctrl_in, ctrl_ins, list_count}
 use Rattle.func_look.proofs.ctrl_in_count.Goals as goal
 
 pub run_count-requires : goal.run_count-requires

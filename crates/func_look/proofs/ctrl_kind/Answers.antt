@@ -3,7 +3,8 @@ use mathlib.Core.Path.{ap, ◌∙◌}
 use lib.Dec.{lit<}
 use Rattle.func.specs.Decode.{func_of}
 use Rattle.func.specs.Kinds.{ctrl_kind_from, ctrl_kind_law}
-use Rattle.func.specs.Tables.{ctrl_line_of, ctrl_in, ctrl_words_are}
+use Rattle.func.specs.Tables.{ctrl_line_of}
+use Rattle.func.proofs.Tables.{ctrl_in, ctrl_words_are}
 use Rattle.func_look.proofs.ctrl_kind.Goals as goal
 
 pub word-requires : goal.word-requires

@@ -1,7 +1,7 @@
 -- The region of a ctrl line is word 0 of its row (`ctrl_words_are`).
 use mathlib.Core.Path.{◌∙◌}
 use lib.Dec.{lit<}
-use Rattle.func.specs.Tables.{ctrl_in, ctrl_words_are}
+use Rattle.func.proofs.Tables.{ctrl_in, ctrl_words_are}
 use Rattle.func_look.proofs.ctrl_region.Goals as goal
 
 pub word-requires : goal.word-requires

@@ -1,7 +1,7 @@
 -- The row of a ctrl line holds the run of its entries, whose length is how many there are (`entry_count`).
 use mathlib.Core.Path.{◌∙◌}
 use lib.Dec.{lit<}
-use Rattle.func.specs.Tables.{ctrl_in, entry_count}
+use Rattle.func.proofs.Tables.{ctrl_in, entry_count}
 use Rattle.func_look.proofs.entry_count.Goals as goal
 
 pub run_count-requires : goal.run_count-requires

@@ -1,7 +1,7 @@
 -- The row holds the run of the line's entries (`entry_within`), and the first word of an entry is its region (`entry_region_is`).
 use mathlib.Core.Path.{◌∙◌}
 use lib.Dec.{lit<}
-use Rattle.func.specs.Tables.{ctrl_in, entry_few, entry_within, entry_region_is}
+use Rattle.func.proofs.Tables.{ctrl_in, entry_few, entry_within, entry_region_is}
 use Rattle.func_look.proofs.entry_region.Goals as goal
 
 pub run_at-requires : goal.run_at-requires

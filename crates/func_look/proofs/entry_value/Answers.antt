@@ -3,7 +3,7 @@
 use mathlib.Core.Path.{◌∙◌}
 use lib.Dec.{lit<}
 use Rattle.lifting.specs.Ast.{const}
-use Rattle.func.specs.Tables.{ctrl_in, entry_few, entry_within, entry_values, entry_kept, item_low, item_in, value_is}
+use Rattle.func.proofs.Tables.{ctrl_in, entry_few, entry_within, entry_values, entry_kept, item_low, item_in, value_is}
 use Rattle.func_look.proofs.entry_value.Goals as goal
 
 pub run_at-at-requires : goal.run_at-at-requires

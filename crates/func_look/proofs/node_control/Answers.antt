@@ -1,7 +1,7 @@
 -- The control number of a node is word 7 of its row (`node_control_is`).
 use mathlib.Core.Path.{◌∙◌}
 use lib.Dec.{lit<}
-use Rattle.func.specs.Tables.{node_in_law, node_control_is}
+use Rattle.func.proofs.Tables.{node_in_law, node_control_is}
 use Rattle.func_look.proofs.node_control.Goals as goal
 
 pub word-requires : goal.word-requires

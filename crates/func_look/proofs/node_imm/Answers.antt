@@ -2,7 +2,7 @@
 use mathlib.Core.Path.{ap, ◌∙◌}
 use lib.Dec.{lit<}
 use Rattle.func.specs.Decode.{decode_imm}
-use Rattle.func.specs.Tables.{node_in_law, node_imms, item_low, item_in, item_is}
+use Rattle.func.proofs.Tables.{node_in_law, node_imms, item_low, item_in, item_is}
 use Rattle.func_look.proofs.node_imm.Goals as goal
 
 pub run_at-requires : goal.run_at-requires

@@ -1,7 +1,7 @@
 -- The row holds the run of a node's immediates (`node_imms`), whose length is the list's (`list_count`).
 use mathlib.Core.Path.{◌∙◌}
 use lib.Dec.{lit<}
-use Rattle.func.specs.Tables.{node_in_law, node_imms, list_count}
+use Rattle.func.proofs.Tables.{node_in_law, node_imms, list_count}
 use Rattle.func_look.proofs.node_imm_count.Goals as goal
 
 pub run_count-requires : goal.run_count-requires

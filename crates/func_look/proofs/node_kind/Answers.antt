@@ -4,7 +4,7 @@ use lib.Dec.{lit<}
 use Rattle.lifting.specs.Parts.{node_of}
 use Rattle.func.specs.Decode.{func_of}
 use Rattle.func.specs.Kinds.{node_kind_from, node_kind_law}
-use Rattle.func.specs.Tables.{node_in_law, node_number_is}
+use Rattle.func.proofs.Tables.{node_in_law, node_number_is}
 use Rattle.func_look.proofs.node_kind.Goals as goal
 
 pub word-requires : goal.word-requires

@@ -2,7 +2,7 @@
 use mathlib.Core.Path.{ap, ◌∙◌}
 use lib.Dec.{lit<}
 use Rattle.func.specs.Decode.{decode_number}
-use Rattle.func.specs.Tables.{node_in_law, node_ops, item_low, item_in, item_is}
+use Rattle.func.proofs.Tables.{node_in_law, node_ops, item_low, item_in, item_is}
 use Rattle.func_look.proofs.node_op.Goals as goal
 
 pub run_at-requires : goal.run_at-requires

@@ -1,7 +1,7 @@
 -- The opcode of a node's INST is word 1 of its row (`node_opcode_is`).
 use mathlib.Core.Path.{◌∙◌}
 use lib.Dec.{lit<}
-use Rattle.func.specs.Tables.{node_in_law, node_opcode_is}
+use Rattle.func.proofs.Tables.{node_in_law, node_opcode_is}
 use Rattle.func_look.proofs.node_opcode.Goals as goal
 
 pub word-requires : goal.word-requires

@@ -3,7 +3,7 @@
 use mathlib.Core.Path.{◌∙◌}
 use lib.Dec.{lit<}
 use Rattle.lifting.specs.Ast.{const}
-use Rattle.func.specs.Tables.{node_in_law, node_values_law, item_low, item_in, value_is, node_kept}
+use Rattle.func.proofs.Tables.{node_in_law, node_values_law, item_low, item_in, value_is, node_kept}
 use Rattle.func_look.proofs.node_value.Goals as goal
 
 pub run_at-requires : goal.run_at-requires

@@ -1,7 +1,7 @@
 -- The attributes of an op are word 0 of its row (`op_words_are`).
 use mathlib.Core.Path.{◌∙◌}
 use lib.Dec.{lit<}
-use Rattle.func.specs.Tables.{op_in_law, op_words_are}
+use Rattle.func.proofs.Tables.{op_in_law, op_words_are}
 use Rattle.func_look.proofs.op_attrs.Goals as goal
 
 pub word-requires : goal.word-requires

@@ -2,7 +2,7 @@
 use mathlib.Core.Path.{ap, ◌∙◌}
 use lib.Dec.{lit<}
 use Rattle.func.specs.Decode.{decode_imm}
-use Rattle.func.specs.Tables.{op_in_law, op_imms_law, item_low, item_in, item_is}
+use Rattle.func.proofs.Tables.{op_in_law, op_imms_law, item_low, item_in, item_is}
 use Rattle.func_look.proofs.op_imm.Goals as goal
 
 pub run_at-requires : goal.run_at-requires

@@ -5,7 +5,7 @@ use lib.Dec.{lit<}
 use Rattle.lifting.specs.Parts.{op_of}
 use Rattle.func.specs.Decode.{func_of}
 use Rattle.func.specs.Kinds.{op_kind_from, op_kind_law}
-use Rattle.func.specs.Tables.{op_in_law, op_words_are}
+use Rattle.func.proofs.Tables.{op_in_law, op_words_are}
 use Rattle.func_look.proofs.op_kind.Goals as goal
 
 pub word-requires : goal.word-requires

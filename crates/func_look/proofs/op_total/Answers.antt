@@ -1,7 +1,7 @@
 -- The pool of ops is within its room, so that its count is how many ops the function has (`op_total`).
 use mathlib.Core.Path.{sym, ◌∙◌}
 use lib.Dec.{lit<}
-use Rattle.func.specs.Tables.{op_total}
+use Rattle.func.proofs.Tables.{op_total}
 use Rattle.func_look.proofs.op_total.Goals as goal
 
 pub count-requires : goal.count-requires

@@ -1,7 +1,7 @@
 -- The type id of an op is word 1 of its row (`op_words_are`).
 use mathlib.Core.Path.{◌∙◌}
 use lib.Dec.{lit<}
-use Rattle.func.specs.Tables.{op_in_law, op_words_are}
+use Rattle.func.proofs.Tables.{op_in_law, op_words_are}
 use Rattle.func_look.proofs.op_type.Goals as goal
 
 pub word-requires : goal.word-requires

@@ -3,7 +3,7 @@
 use mathlib.Core.Path.{◌∙◌}
 use lib.Dec.{lit<}
 use Rattle.lifting.specs.Ast.{const}
-use Rattle.func.specs.Tables.{op_in_law, op_operands, item_low, item_in, value_is, op_kept}
+use Rattle.func.proofs.Tables.{op_in_law, op_operands, item_low, item_in, value_is, op_kept}
 use Rattle.func_look.proofs.operand.Goals as goal
 
 pub run_at-requires : goal.run_at-requires

@@ -1,7 +1,7 @@
 -- The row holds the run of an op's operands (`op_operands`), whose length is the list's (`list_count`).
 use mathlib.Core.Path.{◌∙◌}
 use lib.Dec.{lit<}
-use Rattle.func.specs.Tables.{op_in_law, op_operands, list_count}
+use Rattle.func.proofs.Tables.{op_in_law, op_operands, list_count}
 use Rattle.func_look.proofs.operand_count.Goals as goal
 
 pub run_count-requires : goal.run_count-requires

@@ -1,7 +1,7 @@
 -- The pool of parameters is within its room, so that its count is how many parameters the function has (`param_total`).
 use mathlib.Core.Path.{sym, ◌∙◌}
 use lib.Dec.{lit<}
-use Rattle.func.specs.Tables.{param_total}
+use Rattle.func.proofs.Tables.{param_total}
 use Rattle.func_look.proofs.param_total.Goals as goal
 
 pub count-requires : goal.count-requires

@@ -2,7 +2,7 @@
 use mathlib.Core.Path.{sym, ap, ◌∙◌}
 use lib.Dec.{lit<}
 use Rattle.lifting.specs.Ast.{Decl}
-use Rattle.func.specs.Tables.{param_in_law, param_row}
+use Rattle.func.proofs.Tables.{param_in_law, param_row}
 use Rattle.func_look.proofs.param_type.Goals as goal
 
 pub word-requires : goal.word-requires

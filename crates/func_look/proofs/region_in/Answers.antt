@@ -2,7 +2,7 @@
 use mathlib.Core.Path.{ap, ◌∙◌}
 use lib.Dec.{lit<}
 use Rattle.func.specs.Decode.{decode_decl}
-use Rattle.func.specs.Tables.{region_in, region_ins, item_low, item_in, item_is}
+use Rattle.func.proofs.Tables.{region_in, region_ins, item_low, item_in, item_is}
 use Rattle.func_look.proofs.region_in.Goals as goal
 
 pub run_at-requires : goal.run_at-requires

@@ -3,7 +3,7 @@
 use mathlib.Core.Path.{◌∙◌}
 use lib.Dec.{lit<}
 use Rattle.lifting.specs.Ast.{const}
-use Rattle.func.specs.Tables.{region_in, region_outs, item_low, item_in, value_is, region_kept}
+use Rattle.func.proofs.Tables.{region_in, region_outs, item_low, item_in, value_is, region_kept}
 use Rattle.func_look.proofs.region_out.Goals as goal
 
 pub run_at-requires : goal.run_at-requires

@@ -2,8 +2,8 @@
 -- (`place_counted`).
 use native.Mathlib.Omega.{arith}
 use lib.ListN.{length-set}
-use Rattle.func.specs.Layout.{inside}
-use Rattle.func.specs.Laws.{place_stored, place_counted}
+use Rattle.func.proofs.Pools.{inside}
+use Rattle.func.proofs.Laws.{place_stored, place_counted}
 use Rattle.func_pools.proofs.place.Goals as goal
 
 pub overflow_add-func-else-n-most : goal.overflow_add-func-else-n-most

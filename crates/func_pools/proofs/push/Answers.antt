@@ -3,7 +3,7 @@ use mathlib.Core.Path.{ap, ◌∙◌}
 use native.Mathlib.Omega.{arith}
 use lib.ListN.{get_or}
 use borrow.Author.Rules.{rules}
-use Rattle.func.specs.Layout.{inside, entry_words_law}
+use Rattle.func.proofs.Pools.{inside, entry_words_law}
 use Rattle.func.specs.Store.{push, raise}
 use Rattle.func_pools.proofs.push.Goals as goal
 

@@ -1,7 +1,7 @@
 -- The word is set to the larger of the two (`raised`).
 use native.Mathlib.Omega.{arith}
 use lib.ListN.{length-set}
-use Rattle.func.specs.Laws.{raised}
+use Rattle.func.proofs.Laws.{raised}
 use Rattle.func_pools.proofs.raise.Goals as goal
 
 pub returns-then-m-n : goal.returns-then-m-n

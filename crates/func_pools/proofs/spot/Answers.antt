@@ -1,6 +1,6 @@
 -- An entry lies within its pool, and the pool within the slice (`spot`), so that neither the product nor the sum wraps.
 use Rattle.std.proofs.Common.{arith}
-use Rattle.func.specs.Layout.{spot}
+use Rattle.func.proofs.Pools.{spot}
 use Rattle.func_pools.proofs.spot.Goals as goal
 
 pub overflow_mul-result : goal.overflow_mul-result

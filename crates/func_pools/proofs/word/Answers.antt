@@ -1,7 +1,7 @@
 -- Entry i of pool k stands in the slice where the layout says, and word j of it so far behind (`word_is`).
 use native.Mathlib.Omega.{arith}
-use Rattle.func.specs.Layout.{entry_words_law, entry_room_law}
-use Rattle.func.specs.Tables.{word_is}
+use Rattle.func.proofs.Pools.{entry_words_law, entry_room_law}
+use Rattle.func.proofs.Tables.{word_is}
 use Rattle.func_pools.proofs.word.Goals as goal
 
 pub spot-at-requires : goal.spot-at-requires

@@ -1,5 +1,5 @@
 -- Each kind of value is stored as its number and its pair, as `keep_value` says (`kept_as`).
-use Rattle.func.specs.Laws.{kept_as}
+use Rattle.func.proofs.Laws.{kept_as}
 use borrow.Author.Rules.{rules}
 use Rattle.func_values.proofs.keep_value.Goals as goal
 

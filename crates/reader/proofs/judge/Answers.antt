@@ -2,7 +2,7 @@
 use mathlib.Core.Path.{ap, ◌∙◌}
 use native.Mathlib.Omega.{arith}
 use lib.ListN.{length}
-use Rattle.func.specs.Whole.{clear_empty, length_empty}
+use Rattle.func.proofs.Whole.{clear_empty, length_empty}
 use Rattle.reader.specs.Same.{judged_at}
 use Rattle.reader.proofs.Laws.{clear_as, none_entered}
 use Rattle.reader.proofs.judge.Goals as goal

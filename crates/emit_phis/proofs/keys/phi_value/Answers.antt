@@ -4,7 +4,7 @@ use mathlib.Core.Path.{sym, ap, ◌∙◌}
 use Prim.Native.Nat.{ℕ}
 use native.Mathlib.Omega.{arith}
 use Rattle.lifting.specs.Ast.{region_input}
-use Rattle.func.specs.Tables.{item_low, node_outs, region_ins}
+use Rattle.func.proofs.Tables.{item_low, node_outs, region_ins}
 use Rattle.walk_points.specs.Walk.{few_nodes}
 use Rattle.terminators.specs.Kinds.{as_point}
 use Rattle.emit_lists.specs.Edges.{body_in, entry_region_in, input_in, output_in}
