@@ -1,4 +1,6 @@
 // Room for what the programs print.
+#![tactic(auto)]
+
 ghost use Rattle.std.specs.Prelude.{◌≤◌};
 ghost use Rattle.print_room.specs.Most.{max_case};
 

@@ -1,10 +1,12 @@
 // Where a case ends in the bytes of a batch, by the line `%%` behind it, and the bytes that are kept of it.
+#![tactic(auto)]
+
 ghost use Rattle.std.specs.Prelude.{◌≡◌, ◌+◌, ◌≤◌, ◌<◌, min, length, drop};
 ghost use Rattle.std.proofs.Math.Seq.{paste};
 ghost use Rattle.read_marks.specs.Cut.{percent_after, matched_after, cut_of, fitting_bytes};
 
 // Where the bytes of a case end that were read, and how many bytes of "\n%%\n" they end with.
-#[derive(Drop)]
+#[derive(Clone, Copy)]
 pub struct Place {
     pub end: usize,
     pub matched: u32,
