@@ -1,5 +1,7 @@
 // The kept blocks as runs of visited points: one pass forward says of each position in which block it stands, and whether its point absorbs the
 // next one.
+#![tactic(auto)]
+
 ghost use Rattle.std.specs.Prelude.{◌≡◌, ◌+◌, ◌≤◌, ◌<◌, length, set};
 ghost use Rattle.func.specs.Decode.{func_of};
 ghost use Rattle.work.specs.Layout.{statuses_at, absorbs_at, absorbs_end};

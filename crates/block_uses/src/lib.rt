@@ -1,4 +1,6 @@
 // Use counts: a table of the work slice with a word for each of 512 points, by number. The first point counts one, and so does each label.
+#![tactic(auto)]
+
 ghost use Rattle.std.specs.Prelude.{◌≡◌, ◌+◌, ◌≤◌, ◌<◌, length, get_or, set};
 ghost use Rattle.lifting.specs.Walk.{walk_of};
 ghost use Rattle.func.specs.Decode.{func_of};

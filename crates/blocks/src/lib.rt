@@ -1,4 +1,6 @@
 // Use counts of the visited points, and the kept blocks as runs of neighbouring visited points.
+#![tactic(auto)]
+
 ghost use Rattle.std.specs.Prelude.{◌≡◌, ◌≤◌, ◌<◌, length};
 ghost use Rattle.func.specs.Decode.{func_of};
 ghost use Rattle.func.specs.Tables.{Tables};

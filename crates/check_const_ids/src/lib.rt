@@ -1,4 +1,6 @@
 // What refusal 4 asks of const ids: none repeats.
+#![tactic(auto)]
+
 ghost use Rattle.std.specs.Prelude.{◌≡◌, false, ◌+◌, ◌<◌, get_or, drop};
 ghost use Rattle.general_laws.specs.Lists.{within};
 ghost use Rattle.func.specs.Layout.{consts};

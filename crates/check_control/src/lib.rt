@@ -1,5 +1,7 @@
 // Refusal 7: whether the ctrl lines of the function slice fit. Regions are looked up in the tables of the work slice; entries of one line are
 // compared with its other entries and its targets. The roots come from the walk.
+#![tactic(auto)]
+
 
 ghost use Rattle.std.specs.Prelude.{◌≡◌, ◌≤◌, ◌<◌, length, drop};
 ghost use Rattle.general_laws.specs.Lists.{every, within, distinct, keys};

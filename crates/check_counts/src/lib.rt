@@ -1,5 +1,7 @@
 // Refusal 6, but for ctrl lines: whether the counts of the function slice agree. Of a text that passed 3 to 5 every list that is looked at is
 // there whole.
+#![tactic(auto)]
+
 ghost use Rattle.std.specs.Prelude.{◌≡◌, ◌<◌};
 ghost use Rattle.func.specs.Layout.{nodes, regions};
 ghost use Rattle.func.specs.Store.{count};

@@ -1,4 +1,6 @@
 // What refusals 4 and 6 ask of ctrl lines, line by line.
+#![tactic(auto)]
+
 ghost use Rattle.std.specs.Prelude.{◌≡◌, ◌<◌};
 ghost use Rattle.lifting.specs.Limits.{max_bytes};
 ghost use Rattle.check_ctrls.specs.Judged.{opcode_in, judged_with};
@@ -8,7 +10,7 @@ use check_limits::both;
 use read_insts::{Control, Selection};
 
 // The lines so far: how many, and whether the opcodes of their INSTs and their edges fit.
-#[derive(Drop)]
+#[derive(Clone, Copy)]
 pub struct Judged {
     pub line: u32,
     pub opcodes: bool,

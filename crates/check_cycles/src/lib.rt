@@ -1,4 +1,6 @@
 // Whether a region lies around itself: the second part of refusal 5. A table of parents in the work slice, with one of stamps behind it, tells.
+#![tactic(auto)]
+
 ghost use Rattle.std.specs.Prelude.{◌≡◌, ℕ, ◌+◌, ◌≤◌, ◌<◌, length};
 ghost use Rattle.func.specs.Layout.{regions};
 ghost use Rattle.func.specs.Store.{count};

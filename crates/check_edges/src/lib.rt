@@ -1,5 +1,7 @@
 // What refusal 6 asks of the edges of a ctrl line, as it is read: each entry has as many values as its region has inputs, and a target without an
 // entry has none. A region that has an entry in a line is marked with the line's number.
+#![tactic(auto)]
+
 ghost use Rattle.std.specs.Prelude.{◌≡◌, ◌+◌, ◌≤◌, ◌<◌, eqb, length};
 ghost use Rattle.lifting.specs.Limits.{max_targets};
 ghost use Rattle.func.specs.Layout.{func_need, values, targets};

@@ -1,4 +1,6 @@
 // Refusal 9, but for the ids that would be given: the first id is not 0, and is above every id in the text.
+#![tactic(auto)]
+
 ghost use Rattle.std.specs.Prelude.{◌≡◌, ◌&&◌, ◌<◌, ltb, length, get_or};
 ghost use Rattle.general_laws.specs.Lists.{every};
 ghost use Rattle.lifting.specs.Parts.{ids};
@@ -15,7 +17,7 @@ use func_look::{
 };
 
 // The kinds of lines that hold ids.
-#[derive(Drop)]
+#[derive(Clone, Copy)]
 pub enum Lines {
     Consts,
     Params,
@@ -25,7 +27,7 @@ pub enum Lines {
 }
 
 // The inputs of a region, or the outs of a node.
-#[derive(Drop)]
+#[derive(Clone, Copy)]
 pub enum Decls {
     Ins(usize),
     Outs(usize),

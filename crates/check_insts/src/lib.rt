@@ -1,4 +1,6 @@
 // What refusal 4 asks of an INST: its opcode and its immediates fit. What an op's kind asks stands beside it.
+#![tactic(auto)]
+
 ghost use Rattle.std.specs.Prelude.{◌≡◌};
 ghost use Rattle.lifting.specs.References.{imm_fits};
 ghost use Rattle.func.specs.Kinds.{as_imm};

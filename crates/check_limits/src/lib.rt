@@ -1,4 +1,6 @@
 // Refusal 3, judged by the function slice, in which the text stands that was read (crate func).
+#![tactic(auto)]
+
 ghost use Rattle.std.specs.Prelude.{◌≡◌, ◌&&◌, ◌≤◌, ◌<◌, leb, length};
 ghost use Rattle.func.specs.Layout.{func_need, pool_total};
 ghost use Rattle.func.specs.Store.{count};

@@ -1,4 +1,6 @@
 // What refusal 4 asks of the numbers of nodes, ops and regions: each names a line.
+#![tactic(auto)]
+
 ghost use Rattle.std.specs.Prelude.{◌≡◌, ◌≤◌, ◌<◌, length};
 ghost use Rattle.func.specs.Layout.{func_need, pool_total};
 ghost use Rattle.check_lines.specs.Test.{below_test, regions_test};

@@ -1,5 +1,7 @@
 // Whether a reference stands twice: the first part of refusal 5. Counts are compared first, since a pool of references that is over its room
 // cannot pass; then marks in the work slice tell whether a reference stands twice.
+#![tactic(auto)]
+
 ghost use Rattle.std.specs.Prelude.{◌≡◌, ◌+◌, ◌≤◌, ◌<◌, length};
 ghost use Rattle.func.specs.Layout.{func_need, pool_total, entry_words, entry_room, child_refs};
 ghost use Rattle.func.specs.Store.{count};

@@ -1,4 +1,6 @@
 // Refusal 4, judged by the function slice, in which the text stands that was read (crate func).
+#![tactic(auto)]
+
 ghost use Rattle.std.specs.Prelude.{◌≡◌, true, ◌&&◌, ◌≤◌, ◌<◌, length};
 ghost use Rattle.func.specs.Layout.{func_need};
 ghost use Rattle.check_limits.specs.Limits.{LimitsReady, limits_test};

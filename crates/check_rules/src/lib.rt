@@ -1,4 +1,6 @@
 // What refusal 4 asks of the entries of a pool, one by one.
+#![tactic(auto)]
+
 ghost use Rattle.std.specs.Prelude.{◌≡◌, [], ◌<◌, get_or};
 ghost use Rattle.func.specs.Store.{count, view};
 ghost use Rattle.check_limits.specs.Limits.{LimitsReady};
@@ -15,7 +17,7 @@ use func_rows::{
 use refusals::limits::{MAX_CONTROL, MAX_OPCODE};
 
 // What refusal 4 asks of one entry of a pool.
-#[derive(Drop)]
+#[derive(Clone, Copy)]
 pub enum Rule {
     // a value names something
     Named,

@@ -1,4 +1,6 @@
 // Refusal 13: whether a `bool` ctrl of the function slice, reached or not, has two equal targets.
+#![tactic(auto)]
+
 ghost use Rattle.std.specs.Prelude.{◌≡◌, true, ◌<◌, length};
 ghost use Rattle.lifting.specs.Control.{control_fits, targets_differ};
 ghost use Rattle.func.specs.Decode.{func_of};

@@ -1,5 +1,7 @@
 // Refusals 3 to 7 and 13, in their order, of the text that stands in the function slice. Each test may look only at what those before it have shown
 // to be there.
+#![tactic(auto)]
+
 ghost use Rattle.std.specs.Prelude.{◌≡◌, ◌≤◌, length};
 ghost use Rattle.func.specs.Layout.{func_need};
 ghost use Rattle.work.specs.Layout.{work_need};

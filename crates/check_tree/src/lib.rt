@@ -1,4 +1,6 @@
 // Refusal 5: whether the regions, nodes and ops of the function slice form a tree: no reference stands twice, and no region lies around itself.
+#![tactic(auto)]
+
 ghost use Rattle.std.specs.Prelude.{◌≡◌, ◌≤◌, length};
 ghost use Rattle.work.specs.Layout.{work_need};
 ghost use Rattle.check_marks.specs.Test.{tree_test, TreeSafe};

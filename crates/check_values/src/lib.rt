@@ -1,4 +1,6 @@
 // What refusal 4 asks of a value: it names something.
+#![tactic(auto)]
+
 ghost use Rattle.std.specs.Prelude.{◌≡◌};
 ghost use Rattle.lifting.specs.Ast.{region_input, node_output, data_inst_output};
 ghost use Rattle.func.specs.Kinds.{as_value};

@@ -1,4 +1,6 @@
 // The commands: which one a word names, which one a program's arguments ask for, and which one a stored case tries.
+#![tactic(auto)]
+
 ghost use Rattle.std.specs.Prelude.{◌≡◌, ◌≤◌, length, take};
 ghost use Rattle.command.specs.Named.{chosen_by, name_of, same_bytes};
 ghost use Rattle.command.specs.Opened.{line_room, opened_of, word_of};
@@ -6,7 +8,7 @@ ghost use Rattle.command.specs.Opened.{line_room, opened_of, word_of};
 use bytes::scan::find;
 
 // The list of an input with a first line; the reader's answer to a text; a text's kept blocks; what there is; and a word that names none.
-#[derive(Drop)]
+#[derive(Clone, Copy)]
 pub enum Command {
     Lift,
     Read,
@@ -16,7 +18,7 @@ pub enum Command {
 }
 
 // What a case tries, and the place where its input starts.
-#[derive(Drop)]
+#[derive(Clone, Copy)]
 pub struct Case {
     pub command: Command,
     pub at: usize,

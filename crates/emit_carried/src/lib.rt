@@ -1,4 +1,6 @@
 // The phis of a visited point: what each has for attributes and type, and what moves into it along an edge.
+#![tactic(auto)]
+
 ghost use Rattle.std.specs.Prelude.{◌≡◌, ◌<◌, length, get_or};
 ghost use Rattle.lifting.specs.Walk.{line_term};
 ghost use Rattle.lifting.specs.Ast.{const};

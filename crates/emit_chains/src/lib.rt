@@ -1,4 +1,6 @@
 // Reading along the chains of edges into a point: the first edge, the next one, and where an edge comes from.
+#![tactic(auto)]
+
 ghost use Rattle.std.specs.Prelude.{◌≡◌, ◌∷◌, ◌+◌, ◌-◌, ◌≤◌, ◌<◌, get_or};
 ghost use Rattle.work.specs.Layout.{heads_at};
 ghost use Rattle.emit_edge_ends.specs.Links.{Chained, chain, next_at, origin_at};

@@ -1,4 +1,6 @@
 // The edges of a way out that may carry values into phis: one for each entry, or a sole edge without one.
+#![tactic(auto)]
+
 ghost use Rattle.std.specs.Prelude.{◌≡◌, ◌<◌, length, get_or};
 ghost use Rattle.lifting.specs.Walk.{line_term};
 ghost use Rattle.lifting.specs.Parts.{region_of};

@@ -1,5 +1,7 @@
 // For each point, the edges into it that may carry values into phis: chains in the work slice. A phi has a pair for each kept block with an edge to
 // it, in kept-block order, so one pass over all positions, from the last to the first, links them all.
+#![tactic(auto)]
+
 ghost use Rattle.std.specs.Prelude.{◌≡◌, ◌+◌, ◌-◌, ◌≤◌, ◌<◌, length};
 ghost use Rattle.func.specs.Decode.{func_of};
 ghost use Rattle.work.specs.Layout.{heads_at, origins_end};

@@ -1,4 +1,6 @@
 // How many elements a list has, and its elements.
+#![tactic(auto)]
+
 ghost use Rattle.std.specs.Prelude.{◌≡◌, ◌≤◌, ◌<◌, length, get_or};
 ghost use Rattle.lifting.specs.Ast.{const};
 ghost use Rattle.lifting.specs.Parts.{node_of, node_values};

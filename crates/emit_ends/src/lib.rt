@@ -1,4 +1,6 @@
 // How a block begins and ends: its label, its merge, its terminator.
+#![tactic(auto)]
+
 ghost use Rattle.std.specs.Prelude.{[], ◌∷◌, ◌++◌, ◌+◌, ◌<◌, get_or, length};
 ghost use Rattle.lifting.specs.Points.{region_entry};
 ghost use Rattle.lifting.specs.Absorb.{merge_labels};

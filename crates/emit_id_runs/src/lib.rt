@@ -1,4 +1,6 @@
 // The ids of one visited point: of its phis, of its results and of its label, each kind as a run from a given id on.
+#![tactic(auto)]
+
 ghost use Rattle.std.specs.Prelude.{◌≡◌, ◌+◌, ◌≤◌, ◌<◌, length};
 ghost use Rattle.lifting.specs.Parts.{block_ops, node_of};
 ghost use Rattle.func.specs.Decode.{func_of};

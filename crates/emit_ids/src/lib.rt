@@ -1,5 +1,7 @@
 // New ids in the work slice: a table for each kind of name, by the number of its region, node, op or point. They are given one after the other, in
 // a pass over the visited points for each kind of name.
+#![tactic(auto)]
+
 ghost use Rattle.std.specs.Prelude.{◌≡◌, ◌+◌, ◌≤◌, ◌<◌, length};
 ghost use Rattle.lifting.specs.Limits.{highest_id};
 ghost use Rattle.func.specs.Decode.{func_of};
@@ -17,7 +19,7 @@ use func_look::param_total;
 use work::{IDS, IDS_END, INPUT_IDS, clear};
 
 // The kinds of names that visited points have.
-#[derive(Drop)]
+#[derive(Clone, Copy)]
 pub enum Kind {
     Phis,
     Results,

@@ -1,4 +1,6 @@
 // The runs that an instruction is made of: what stands before its ids, values by their ids, labels.
+#![tactic(auto)]
+
 ghost use Rattle.std.specs.Prelude.{◌≡◌, true, ◌+◌, ◌≤◌, ◌<◌, get_or, length};
 ghost use Rattle.general_laws.specs.Lists.{gather};
 ghost use Rattle.lifting.specs.References.{named};

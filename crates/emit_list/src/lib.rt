@@ -1,4 +1,6 @@
 // The whole list: function, parameters, the blocks point by point, function end.
+#![tactic(auto)]
+
 ghost use Rattle.std.specs.Prelude.{◌≡◌, ◌++◌, ◌≤◌, ◌<◌, length};
 ghost use Rattle.lifting.specs.Limits.{highest_id};
 ghost use Rattle.lifting.specs.Instructions.{list_of};

@@ -1,9 +1,11 @@
 // The lists that an instruction is made of, each named by the line that it stands in, so that one loop serves all lists of immediates and one
 // all lists of values; and what moves into phis.
+#![tactic(auto)]
+
 
 // A list of values: none; the operands of an op; the inputs of a ctrl line; the values of a node, an exit or a select; a loop's condition
 // alone; the outputs of a region.
-#[derive(Drop)]
+#[derive(Clone, Copy)]
 pub enum Values {
     None,
     Operands(usize),
@@ -14,7 +16,7 @@ pub enum Values {
 }
 
 // A list of immediates: none; those of a node, of an op, of a ctrl line; a short one by its operand kind and its word.
-#[derive(Drop)]
+#[derive(Clone, Copy)]
 pub enum Imms {
     None,
     Node(usize),
@@ -24,14 +26,14 @@ pub enum Imms {
 }
 
 // The id that an op calls, a function or a set of extended instructions.
-#[derive(Drop)]
+#[derive(Clone, Copy)]
 pub enum Callee {
     No,
     Id(u32),
 }
 
 // Where the values along the edges of a way out stand: in the entries of a ctrl line, in the outputs of a region, or with the target.
-#[derive(Drop)]
+#[derive(Clone, Copy)]
 pub enum Carried {
     Entries(usize),
     Outputs(usize),

@@ -1,4 +1,6 @@
 // The names that get new ids: giving a run of them its ids, and what of a text has some.
+#![tactic(auto)]
+
 ghost use Rattle.std.specs.Prelude.{◌≡◌, ◌+◌, ◌≤◌, ◌<◌, ltb, length, get_or};
 ghost use Rattle.lifting.specs.Parts.{children_of, node_of, op_of};
 ghost use Rattle.func.specs.Decode.{func_of};

@@ -1,4 +1,6 @@
 // The opcode, the immediates and the callee of an op.
+#![tactic(auto)]
+
 ghost use Rattle.std.specs.Prelude.{◌≡◌, ◌<◌, length};
 ghost use Rattle.lifting.specs.Parts.{callee_ids, op_of};
 ghost use Rattle.lifting.specs.Instructions.{op_imms, op_opcode};

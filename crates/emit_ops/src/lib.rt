@@ -1,4 +1,6 @@
 // Ops as instructions: what stands before their ids, what they call, their operands.
+#![tactic(auto)]
+
 ghost use Rattle.std.specs.Prelude.{◌≡◌, ◌+◌, ◌≤◌, ◌<◌, length};
 ghost use Rattle.general_laws.specs.Lists.{gather};
 ghost use Rattle.lifting.specs.Parts.{block_ops, node_of};

@@ -1,4 +1,6 @@
 // The words of a list, in the output slice: refusals 10 and 11 leave that slice alone, so they are decided before the first word is written.
+#![tactic(auto)]
+
 ghost use Rattle.std.specs.Prelude.{◌≡◌, true, length};
 ghost use Rattle.lifting.specs.Instructions.{list_of};
 ghost use Rattle.lifting.specs.Words.{words};

@@ -1,4 +1,6 @@
 // The phis of a visited point, appended one by one: what each sets, and its pairs, a value and a label for each edge into the point.
+#![tactic(auto)]
+
 mod keys;
 mod pairs;
 

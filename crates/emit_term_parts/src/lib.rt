@@ -1,4 +1,6 @@
 // The attributes, the opcode, the immediates and the inputs of a terminator.
+#![tactic(auto)]
+
 ghost use Rattle.std.specs.Prelude.{◌≡◌, ◌<◌, length};
 ghost use Rattle.lifting.specs.Instructions.{term_imms, term_opcode};
 ghost use Rattle.func.specs.Decode.{func_of};

@@ -1,4 +1,6 @@
 // The id of a value, read in the tables of new ids.
+#![tactic(auto)]
+
 ghost use Rattle.std.specs.Prelude.{◌≡◌, ◌+◌, ◌≤◌, ◌<◌, length, get_or};
 ghost use Rattle.lifting.specs.Limits.{highest_id};
 ghost use Rattle.func.specs.Decode.{func_of};

@@ -1,4 +1,6 @@
 // Whether every value of the text has an id, in one pass over their pool. Where each has one, refusal 10 cannot hold, and the list need not be counted.
+#![tactic(auto)]
+
 ghost use Rattle.std.specs.Prelude.{◌≡◌, ◌≤◌, ◌<◌, length};
 ghost use Rattle.lifting.specs.Limits.{highest_id};
 ghost use Rattle.func.specs.Decode.{func_of};

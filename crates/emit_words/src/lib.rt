@@ -1,4 +1,6 @@
 // Words appended to the output at a cursor. A word past the slice's end is counted and not stored, so that a run over an empty slice counts.
+#![tactic(auto)]
+
 ghost use Rattle.std.specs.Prelude.{◌≡◌, [], ◌∷◌, ◌+◌, set};
 ghost use Rattle.general_laws.specs.Part.{sat};
 ghost use Rattle.emit_words.specs.Put.{Put};
@@ -7,7 +9,7 @@ ghost use Rattle.emit_words.specs.Items.{head_items};
 
 // The place of the next word; 1 once an id was missing, else 0. That is a word as wide as the place: the compiler copies a narrower field with
 // its padding, by stores that overlap, and the loads behind them wait.
-#[derive(Drop)]
+#[derive(Clone, Copy)]
 pub struct Cursor {
     pub at: usize,
     pub missed: usize,

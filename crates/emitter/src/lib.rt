@@ -1,4 +1,6 @@
 // From the tables of a text to the words of its list from a first id, or refusal 9, 10 or 11.
+#![tactic(auto)]
+
 ghost use Rattle.std.specs.Prelude.{◌≡◌, ◌≤◌, length};
 ghost use Rattle.lifting.specs.Instructions.{list_of};
 ghost use Rattle.lifting.specs.Words.{words};

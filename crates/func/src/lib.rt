@@ -1,8 +1,10 @@
 // The function slice: what the text of one function stores, and the function that stands there. The slice holds pools (specs/Layout), and no
 // crate above looks at its words: crate func_store stores, func_look answers, and func_rows answers of a text that is not known to fit.
+#![tactic(auto)]
+
 
 // A value V: constant, input of a region, output of a node, result of an op.
-#[derive(Drop)]
+#[derive(Clone, Copy)]
 pub enum Val {
     Const(u32),
     Input(u32, u32),
@@ -11,7 +13,7 @@ pub enum Val {
 }
 
 // A node's kind.
-#[derive(Drop)]
+#[derive(Clone, Copy)]
 pub enum NodeKind {
     Block,
     SelectBool,
@@ -21,7 +23,7 @@ pub enum NodeKind {
 }
 
 // An op's kind, with its opcode, its ID, or its ID and N.
-#[derive(Drop)]
+#[derive(Clone, Copy)]
 pub enum OpKind {
     Inst(u32),
     Call(u32),
@@ -29,7 +31,7 @@ pub enum OpKind {
 }
 
 // A ctrl line's kind.
-#[derive(Drop)]
+#[derive(Clone, Copy)]
 pub enum CtrlKind {
     Unreachable,
     Return,
@@ -40,14 +42,14 @@ pub enum CtrlKind {
 }
 
 // A ctrl line's number, or that there is none.
-#[derive(Drop)]
+#[derive(Clone, Copy)]
 pub enum CtrlAt {
     At(usize),
     Nothing,
 }
 
 // Counts of the pools that a line's lists go to.
-#[derive(Drop)]
+#[derive(Clone, Copy)]
 pub struct Marks {
     pub decls: u32,
     pub values: u32,
@@ -60,14 +62,14 @@ pub struct Marks {
 }
 
 // An input or an output: attributes and type id.
-#[derive(Drop)]
+#[derive(Clone, Copy)]
 pub struct Slot {
     pub attrs: u32,
     pub ty: u32,
 }
 
 // `(kind operandkind word)`.
-#[derive(Drop)]
+#[derive(Clone, Copy)]
 pub struct Immediate {
     pub kind: u32,
     pub operand: u32,

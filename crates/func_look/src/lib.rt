@@ -1,4 +1,6 @@
 // The function that stands in the slice, field by field, and the pools of parts, entry by entry.
+#![tactic(auto)]
+
 ghost use Rattle.std.specs.Prelude.{◌≡◌, [], ◌<◌, length, get_or};
 ghost use Rattle.func.specs.Layout.{decls, values, imms, targets, node_refs, op_refs, child_refs};
 ghost use Rattle.func.specs.Store.{view};

@@ -1,4 +1,6 @@
 // The pools: where an entry stands, what it says, and one more of them.
+#![tactic(auto)]
+
 ghost use Rattle.std.specs.Prelude.{◌≡◌, ◌+◌, ◌*◌, ◌/◌, ◌%◌, ◌<◌, ◌≤◌, min, length};
 ghost use Rattle.std.proofs.lemmas.List.Edits.{sets};
 ghost use Rattle.func.specs.Layout.{func_need, pool_total, entry_words, base, width, room};
@@ -48,7 +50,7 @@ pub fn wide(x: u32) -> usize
 }
 
 // Where a pool begins, how wide its entries are, and how many it has room for.
-#[derive(Drop)]
+#[derive(Clone, Copy)]
 struct Shape(usize, usize, u32);
 
 // The pools' shapes, by their numbers. A match and no constant table: the compiler writes a table onto the stack anew wherever one is read.

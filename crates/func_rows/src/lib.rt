@@ -1,4 +1,6 @@
 // What a row says of any text's slice, whole or not (`Stored` of crate func): the tests of refusals 4 and 5 run before it is known that every list fits.
+#![tactic(auto)]
+
 ghost use Rattle.std.specs.Prelude.{◌≡◌, ◌+◌, ◌/◌, ◌%◌, ◌≤◌, ◌<◌, length, get_or};
 ghost use Rattle.func.specs.Layout.{func_need, consts, params, decls, regions, nodes, ops, node_refs, child_refs, entry_words};
 ghost use Rattle.func.specs.Tables.{Within, word};

@@ -1,4 +1,6 @@
 // What reading a text stores but for values: each part as it is met, and the row of each line after its lists.
+#![tactic(auto)]
+
 ghost use Rattle.std.specs.Prelude.{◌≡◌, ◌<◌, ◌≤◌, length};
 ghost use Rattle.func.specs.Layout.{func_need, pool_total, entry_words, values};
 ghost use Rattle.func.specs.Store.{count, push};
@@ -14,7 +16,7 @@ use func_pools::{
 };
 
 // The three words of an op's kind.
-#[derive(Drop)]
+#[derive(Clone, Copy)]
 struct OpWords {
     kind: u32,
     first: u32,

@@ -1,4 +1,6 @@
 // What reading a value stores.
+#![tactic(auto)]
+
 ghost use Rattle.std.specs.Prelude.{◌≡◌, ◌<◌, ◌≤◌, length};
 ghost use Rattle.func.specs.Layout.{func_need, values};
 ghost use Rattle.func.specs.Store.{push};

@@ -1,4 +1,6 @@
 // Reads a line `(first N)` and a text on standard input, as far as they decide, and prints the text's list, or `(refused N)`.
+#![tactic(auto)]
+
 use command::Command;
 
 fn main() {

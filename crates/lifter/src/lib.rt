@@ -1,4 +1,6 @@
 // The entry: from the lent text to the words of its list, or a refusal.
+#![tactic(auto)]
+
 ghost use Rattle.std.specs.Prelude.{◌≡◌, ◌≤◌, length};
 ghost use Rattle.lifting.specs.Limits.{func_words, work_words};
 ghost use Rattle.lifting.specs.Answer.{out_after, scratch_after};

@@ -1,1 +1,3 @@
 // The definitions that every promise of this repository cites; all of them stand in specs/.
+#![tactic(auto)]
+

@@ -1,9 +1,11 @@
 // The opcodes that lifting itself writes or tests: document 01's table, from instruction kind to SPIR-V opcode (spirt's spec.rs).
+#![tactic(auto)]
+
 ghost use Rattle.std.specs.Prelude.{◌≡◌, ◌<◌};
 ghost use Rattle.opcodes.specs.Table.{place_of, opcode_of, in_table};
 
 // The instruction kinds of the table, under the names of the SPIR-V Specification.
-#[derive(Drop)]
+#[derive(Clone, Copy)]
 pub enum InstKind {
     ExtInst,
     ConstantTrue,

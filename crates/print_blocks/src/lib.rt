@@ -1,4 +1,6 @@
 // What is printed of a text: a line for each of its kept blocks, or the line `(refused N)`; an imported function has none.
+#![tactic(auto)]
+
 ghost use Rattle.std.specs.Prelude.{◌≡◌, ◌≤◌, length};
 ghost use Rattle.lifting.specs.Answer.{parse};
 ghost use Rattle.func.specs.Decode.{func_of};

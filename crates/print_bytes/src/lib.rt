@@ -1,5 +1,7 @@
 // Bytes appended at a place. A byte past the slice's end is counted and not stored, so that the place where the bytes would end is known
 // whatever room there is.
+#![tactic(auto)]
+
 ghost use Rattle.std.specs.Prelude.{◌≡◌, [], ◌∷◌, ◌+◌, set};
 ghost use Rattle.lifting.specs.Digits.{digits};
 ghost use Rattle.general_laws.specs.Part.{sat};

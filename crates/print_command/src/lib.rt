@@ -1,4 +1,6 @@
 // What each command prints for an input, and what is printed for a stored case.
+#![tactic(auto)]
+
 ghost use Rattle.std.specs.Prelude.{◌++◌, length};
 ghost use Rattle.lifting.specs.Bytes.{bytes};
 ghost use Rattle.print_bytes.specs.Put.{PutBytes};

@@ -1,5 +1,7 @@
 // The forms `(imms ..)` and `(ids ..)` of an instruction, from its words. Words that the instruction's own counts ask for and that are not there are
 // left out.
+#![tactic(auto)]
+
 ghost use Rattle.std.specs.Prelude.{◌≡◌, get_or, take, drop};
 ghost use Rattle.lifting.specs.Words.{inst_from};
 ghost use Rattle.print_bytes.specs.Put.{PutBytes};

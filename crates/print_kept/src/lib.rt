@@ -1,4 +1,6 @@
 // The lines of kept blocks, a line each: `(block P (chain P..) (uses N) (to P..) (merge P..))`, where P is a point.
+#![tactic(auto)]
+
 ghost use Rattle.std.specs.Prelude.{◌<◌};
 ghost use Rattle.func.specs.Decode.{func_of};
 ghost use Rattle.walk_points.specs.Numbers.{point_of};

@@ -1,4 +1,6 @@
 // The points that the way out of a visited point names: its targets and its merge labels.
+#![tactic(auto)]
+
 ghost use Rattle.std.specs.Prelude.{◌<◌};
 ghost use Rattle.lifting.specs.Absorb.{merge_labels};
 ghost use Rattle.func.specs.Decode.{func_of};

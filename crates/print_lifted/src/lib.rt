@@ -1,4 +1,6 @@
 // What is printed for an input, a line `(first N)` and a text.
+#![tactic(auto)]
+
 ghost use Rattle.std.specs.Prelude.{◌+◌, ◌*◌, ◌≤◌, length, ◌≡◌};
 ghost use Rattle.lifting.specs.Answer.{out_after, scratch_after};
 ghost use Rattle.lifter.specs.Entry.{answer_to};

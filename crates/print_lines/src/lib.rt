@@ -1,1 +1,3 @@
 // The lines of kept blocks as bytes; all of it stands in specs/.
+#![tactic(auto)]
+

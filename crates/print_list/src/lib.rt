@@ -1,5 +1,7 @@
 // The lines of a list, from its words, put into a slice of bytes that the caller lends. The result is the count of the bytes, of which those past the
 // slice's end are not stored.
+#![tactic(auto)]
+
 ghost use Rattle.std.specs.Prelude.{◌≡◌, ◌<◌, length};
 ghost use Rattle.lifting.specs.Words.{inst_from, list_from};
 ghost use Rattle.print_bytes.specs.Put.{PutBytes};

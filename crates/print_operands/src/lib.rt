@@ -1,4 +1,6 @@
 // The operands of an instruction, from their words: immediates and ids.
+#![tactic(auto)]
+
 ghost use Rattle.lifting.specs.Words.{imms_from};
 ghost use Rattle.print_bytes.specs.Put.{PutBytes};
 ghost use Rattle.print_bytes.specs.Lines.{imm_bytes, imms_bytes, ids_bytes};

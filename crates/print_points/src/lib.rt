@@ -1,5 +1,7 @@
 // The names of points, a space before each: `r3+`, region 3's entry, `r3-`, its exit, `n2+`, node 2's entry, or `n2-`, its exit. That of one point, and
 // those of a block's points, as the work slice shows them.
+#![tactic(auto)]
+
 pub mod stand; // stand.rt: what the work slice says of a visited point
 
 ghost use Rattle.std.specs.Prelude.{◌<◌};

@@ -1,4 +1,6 @@
 // What is printed of the reader's answer to a text: the refusal's number, or the word `accepted`.
+#![tactic(auto)]
+
 ghost use Rattle.std.specs.Prelude.{◌≡◌, length};
 ghost use Rattle.lifting.specs.Answer.{parse};
 ghost use Rattle.reader.specs.Parse.{func_after, work_after};

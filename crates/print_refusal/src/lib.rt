@@ -1,5 +1,7 @@
 // The line of a refusal, and the line of the reader's answer, put into a slice of bytes that the caller lends. The result is the count of the bytes,
 // of which those past the slice's end are not stored.
+#![tactic(auto)]
+
 ghost use Rattle.refusals.specs.declared.Refusal.TheVariants.{Forms};
 ghost use Rattle.refusals.specs.Numbers.{refusal_number};
 ghost use Rattle.print_bytes.specs.Put.{PutBytes};

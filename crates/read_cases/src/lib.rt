@@ -1,5 +1,7 @@
 // Reads a batch on standard input, cases that each end with a line `%%`, piece by piece, as reads give them. What follows the last such line is no case.
 // A case longer than the room for it keeps its first bytes, which decide what is printed for it.
+#![tactic(auto)]
+
 ghost use Rattle.std.specs.Prelude.{◌≡◌, ◌+◌, ◌-◌, ◌≤◌, ◌<◌, length, take, drop};
 ghost use Rattle.std.proofs.Math.Seq.{paste};
 ghost use Rattle.read_first.specs.Cut.{input_room};
@@ -18,7 +20,7 @@ pub const ROOM: usize = command::LINE + read_input::INPUT + MARK;
 
 // How many bytes of a case have been kept, and how much of its mark they end with; which bytes of the last piece are still to be taken; and whether
 // there may be more pieces.
-#[derive(Drop)]
+#[derive(Clone, Copy)]
 pub struct State {
     pub len: usize,
     pub matched: u32,

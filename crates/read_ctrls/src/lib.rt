@@ -1,5 +1,7 @@
 // Reads ctrl lines, stores what they hold in the function slice, and judges what refusals 4 and 6 ask of them as they are read: refusal 3 bounds
 // neither the lines nor their entries, so that there need not be room for all of them.
+#![tactic(auto)]
+
 pub mod entries; // entries.rt: the entries of a line
 pub mod kinds; // kinds.rt: K of a line, and the lists behind it
 pub mod line; // line.rt: a line, and all lines
@@ -9,34 +11,34 @@ use read_cursor::Cursor;
 use read_insts::Control;
 
 // `(ctrl R A K`, an INST up to its opcode.
-#[derive(Drop)]
+#[derive(Clone, Copy)]
 pub struct CtrlHead {
     pub region: u32,
     pub attrs: u32,
     pub kind: Control,
 }
 
-#[derive(Drop)]
+#[derive(Clone, Copy)]
 pub enum CtrlHeadRead {
     Read(CtrlHead, Cursor),
     Other,
 }
 
 // Entries: whether each so far fits.
-#[derive(Drop)]
+#[derive(Clone, Copy)]
 pub enum EdgesRead {
     Read(bool, Cursor),
     Refused,
 }
 
-#[derive(Drop)]
+#[derive(Clone, Copy)]
 pub enum CtrlRead {
     Read(Judged, Cursor),
     Refused,
 }
 
 // All lines, up to the end of the text: whether the opcodes and the edges of all of them fit.
-#[derive(Drop)]
+#[derive(Clone, Copy)]
 pub enum CtrlsRead {
     Read(bool, bool),
     Refused,

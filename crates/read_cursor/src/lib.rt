@@ -1,25 +1,27 @@
 // Reads the bytes, words and numbers of which a line of the text is made. A cursor is a place of the text, by value; each of its steps answers
 // with what it read and the next cursor, or that it refused, and the promise of each is the grammar's own reader for that form (`Reads`,
 // specs/Read.antt). Fields, forms, values and the heads of lines are read by crates above, each from a cursor.
+#![tactic(auto)]
+
 ghost use Rattle.std.specs.Prelude.{◌≡◌, [], ◌∷◌, ◌≤◌, length};
 ghost use Rattle.lifting.specs.Bytes.{bytes};
 ghost use Rattle.lifting.specs.Digits.{number};
 ghost use Rattle.read_cursor.specs.Read.{Reads, TextEnded, literal};
 ghost use Rattle.read_cursor.specs.Answers.{step_of, number_answer};
 
-#[derive(Drop)]
+#[derive(Clone, Copy)]
 pub struct Cursor {
     pub at: usize,
 }
 
 // Every answer has two cases: only then does the else of a `let .. else` know which one it is in.
-#[derive(Drop)]
+#[derive(Clone, Copy)]
 pub enum Step {
     On(Cursor),
     Refused,
 }
 
-#[derive(Drop)]
+#[derive(Clone, Copy)]
 pub enum NumberRead {
     Number(u32, Cursor),
     Refused,

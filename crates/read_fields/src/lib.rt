@@ -1,5 +1,7 @@
 // Reads numbers, each behind a space, a bracket or a literal and up to a closing bracket; `(A T)`, and an immediate. The promise of each is
 // the grammar's own reader for that form.
+#![tactic(auto)]
+
 ghost use Rattle.std.specs.Prelude.{◌≤◌, length};
 ghost use Rattle.lifting.specs.Codec.{seq};
 ghost use Rattle.lifting.specs.Grammar.{field, open1, one_codec, two, decl, imm_codec};
@@ -9,14 +11,14 @@ ghost use Rattle.read_fields.specs.Answers.{pair_answer, decl_answer, imm_answer
 
 use read_cursor::{Cursor, NumberRead, Step};
 
-#[derive(Drop)]
+#[derive(Clone, Copy)]
 pub enum PairRead {
     Pair(u32, u32, Cursor),
     Refused,
 }
 
 // Kind, operand kind and word.
-#[derive(Drop)]
+#[derive(Clone, Copy)]
 pub enum ImmRead {
     Imm(u32, u32, u32, Cursor),
     Refused,

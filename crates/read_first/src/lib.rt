@@ -1,4 +1,6 @@
 // The line `(first N)` that an input has before its text.
+#![tactic(auto)]
+
 ghost use Rattle.read_cursor.specs.Read.{Reads};
 ghost use Rattle.read_first.specs.Opening.{first_line_form, first_answer};
 
@@ -6,7 +8,7 @@ use read_cursor::{Cursor, NumberRead, Step};
 use read_fields::one;
 
 // The first id and the place where the text starts.
-#[derive(Drop)]
+#[derive(Clone, Copy)]
 pub enum First {
     At(u32, usize),
     Bad,

@@ -1,4 +1,6 @@
 // The part of the text between a form's brackets, which is lent and not copied.
+#![tactic(auto)]
+
 ghost use Rattle.std.specs.Prelude.{◌≡◌, ◌+◌, ◌≤◌, ◌<◌};
 ghost use Rattle.read_forms.specs.Form.{deeper, closes, form_at};
 

@@ -1,5 +1,7 @@
 // How much of its input a program reads: as much as decides what it prints. What a read gives no contract can say, so the decision is a function
 // of the bytes that were read, and the room for them is asked of the caller.
+#![tactic(auto)]
+
 ghost use Rattle.std.specs.Prelude.{◌≡◌, ◌+◌, ◌≤◌, length};
 ghost use Rattle.io.specs.Counts.{IsPrefixLen};
 ghost use Rattle.read_first.specs.Cut.{input_room};

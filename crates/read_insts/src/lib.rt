@@ -1,5 +1,7 @@
 // Reads the heads of the forms that hold an INST: of an op line, of a selection and of a ctrl. Each ends behind the opcode, whose immediates
 // follow.
+#![tactic(auto)]
+
 use func::OpKind;
 use read_cursor::Cursor;
 
@@ -7,40 +9,40 @@ pub mod controls;
 pub mod ops;
 
 // X is an INST up to its opcode, whose immediates follow, a call or an ext.
-#[derive(Drop)]
+#[derive(Clone, Copy)]
 pub struct Op {
     pub attrs: u32,
     pub ty: u32,
     pub kind: OpKind,
 }
 
-#[derive(Drop)]
+#[derive(Clone, Copy)]
 pub enum OpKindRead {
     Kind(OpKind, Cursor),
     Refused,
 }
 
-#[derive(Drop)]
+#[derive(Clone, Copy)]
 pub enum OpRead {
     Read(Op, Cursor),
     Refused,
 }
 
 // What a selection goes by: `bool`, or an INST's opcode, whose immediates follow.
-#[derive(Drop)]
+#[derive(Clone, Copy)]
 pub enum Selection {
     Bool,
     Inst(u32),
 }
 
-#[derive(Drop)]
+#[derive(Clone, Copy)]
 pub enum SelectionRead {
     Kind(Selection, Cursor),
     Refused,
 }
 
 // K of a ctrl. After the opcode of an `Exit` follow its immediates and one more closing bracket.
-#[derive(Drop)]
+#[derive(Clone, Copy)]
 pub enum Control {
     Unreachable,
     Return,
@@ -49,7 +51,7 @@ pub enum Control {
     Select(Selection),
 }
 
-#[derive(Drop)]
+#[derive(Clone, Copy)]
 pub enum ControlRead {
     Kind(Control, Cursor),
     Refused,

@@ -1,4 +1,6 @@
 // Lines of one kind after the other: the head that tells a line of a kind, and one loop for all kinds.
+#![tactic(auto)]
+
 ghost use Rattle.std.specs.Prelude.{◌≡◌, ◌≤◌, length};
 ghost use Rattle.func.specs.Layout.{func_need};
 ghost use Rattle.read_lines.specs.Lines.{Lined};

@@ -1,4 +1,6 @@
 // Reads the opening word of a node's line, by which its kind is told.
+#![tactic(auto)]
+
 ghost use Rattle.read_cursor.specs.Read.{Reads};
 ghost use Rattle.read_lines.specs.Nodes.{node_head, node_word_of};
 

@@ -1,3 +1,5 @@
 // Readers of node lines and of op lines.
+#![tactic(auto)]
+
 pub mod nodes;
 pub mod ops;

@@ -1,4 +1,6 @@
 // Reads select lines: their lists, and the row.
+#![tactic(auto)]
+
 ghost use Rattle.std.specs.Prelude.{◌≡◌, ◌≤◌, length};
 ghost use Rattle.func.specs.Layout.{func_need};
 ghost use Rattle.read_cursor.specs.Answers.{step_of};

@@ -1,4 +1,6 @@
 // Reads a whole text into the function slice, line kind by line kind, in one pass: refusal 2, with what refusals 4 and 6 ask of ctrl lines.
+#![tactic(auto)]
+
 ghost use Rattle.std.specs.Prelude.{◌≡◌, ◌≤◌, length};
 ghost use Rattle.lifting.specs.Limits.{max_bytes};
 ghost use Rattle.lifting.specs.Grammar.{rest_lines, region_lines};

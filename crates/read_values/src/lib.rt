@@ -1,4 +1,6 @@
 // Reads a value, from the part of the text between its brackets.
+#![tactic(auto)]
+
 ghost use Rattle.std.specs.Prelude.{◌≡◌};
 ghost use Rattle.lifting.specs.Whole.{read_whole};
 ghost use Rattle.lifting.specs.Grammar.{value_codec};
@@ -11,14 +13,14 @@ use read_cursor::{Cursor, NumberRead, Step};
 use read_fields::{PairRead, after, pair_after};
 use read_forms::form;
 
-#[derive(Drop)]
+#[derive(Clone, Copy)]
 pub enum ValueRead {
     Found(Val, Cursor),
     Refused,
 }
 
 // What a part holds.
-#[derive(Drop)]
+#[derive(Clone, Copy)]
 enum PartRead {
     Whole(Val),
     Refused,

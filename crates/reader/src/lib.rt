@@ -1,4 +1,6 @@
 // From the lent text to the tables in the function slice, or a refusal: the one entry of the reader. It asks nothing of its caller.
+#![tactic(auto)]
+
 ghost use Rattle.std.specs.Prelude.{◌≡◌, ◌≤◌, length};
 ghost use Rattle.lifting.specs.Limits.{func_words, work_words};
 ghost use Rattle.lifting.specs.Answer.{parse};

@@ -1,11 +1,13 @@
 // Why a text gets no list: the refusals of documents 01 and 02 by name, the number of each, and the limits that they name.
+#![tactic(auto)]
+
 pub mod limits; // limits.rt: the limits, as constants
 
 ghost use Rattle.std.specs.Prelude.{◌≡◌};
 ghost use Rattle.refusals.specs.Numbers.{refusal_number};
 
 // Document 01's refusals 1 to 11, and document 02's 13.
-#[derive(Drop)]
+#[derive(Clone, Copy)]
 pub enum Refusal {
     // a text over 32,768 bytes
     Long,

@@ -1,4 +1,6 @@
 // Runs stored cases: reads a batch on standard input, case by case, and prints what the command that a case names prints for its input.
+#![tactic(auto)]
+
 ghost use Rattle.std.specs.Prelude.{◌≡◌, length};
 ghost use Rattle.read_cases.specs.Held.{CountsWithin};
 

@@ -1,18 +1,20 @@
 // What the reader and the entry answer, and the numbers that a caller of the library gets of it.
+#![tactic(auto)]
+
 ghost use Rattle.std.specs.Prelude.{◌≡◌};
 ghost use Rattle.results.specs.Told.{lift_number, next_after, read_number, refusal_words, words_after};
 
 use refusals::{Refusal, number};
 
 // The function stands in the function slice, or a refusal.
-#[derive(Drop)]
+#[derive(Clone, Copy)]
 pub enum Parsed {
     Function,
     Refused(Refusal),
 }
 
 // The count of words and the next free id; or a refusal and, after 11, how many words the list has.
-#[derive(Drop)]
+#[derive(Clone, Copy)]
 pub enum Lifted {
     Whole(usize, u32),
     Refused(Refusal, usize),

@@ -1,5 +1,7 @@
 // The static library: what C and Rust call. A slice crosses as a pointer and a count of elements. Nothing is asked of the caller but that the
 // slices it lends for writing do not overlap.
+#![tactic(auto)]
+
 ghost use Rattle.std.specs.Prelude.{◌≡◌};
 ghost use Rattle.lifting.specs.Answer.{out_after, scratch_after};
 ghost use Rattle.lifter.specs.Entry.{answer_to, wanted_to};

@@ -1,4 +1,6 @@
 // Runs the command that its argument names on one input, which it reads on standard input as far as it decides. Without an argument it names the commands.
+#![tactic(auto)]
+
 
 fn main() {
     let mut word = io::buffer();

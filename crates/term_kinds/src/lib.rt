@@ -1,4 +1,6 @@
 // The kind of the terminator at a visited point, and how many phis the entries of regions and nodes have.
+#![tactic(auto)]
+
 ghost use Rattle.std.specs.Prelude.{◌≡◌, true, ◌≤◌, ◌<◌, length};
 ghost use Rattle.lifting.specs.Ast.{const};
 ghost use Rattle.lifting.specs.Parts.{node_of, children_of};

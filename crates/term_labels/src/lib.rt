@@ -1,4 +1,6 @@
 // The labels, targets and phis of a visited point, by its position.
+#![tactic(auto)]
+
 ghost use Rattle.std.specs.Prelude.{◌≡◌, ◌≤◌, ◌<◌, length, get_or};
 ghost use Rattle.lifting.specs.Points.{region_entry};
 ghost use Rattle.lifting.specs.Absorb.{labels, merge_labels, sole_target};

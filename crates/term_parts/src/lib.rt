@@ -1,4 +1,6 @@
 // The parts of a terminator: its merge labels, its targets, and the only target that can be absorbed. Labels are numbers of points.
+#![tactic(auto)]
+
 ghost use Rattle.std.specs.Prelude.{◌≡◌, [], ◌∷◌, ◌≤◌, ◌<◌, length, get_or};
 ghost use Rattle.lifting.specs.Walk.{line_term};
 ghost use Rattle.lifting.specs.Parts.{region_of};

@@ -1,5 +1,7 @@
 // The walk over a checked function: the region walk and the node walk call each other, and each point that they visit is appended to the order,
 // as a number in the work slice. Below a region stand its nodes, below a node its regions, and the checked tree ends the walk.
+#![tactic(auto)]
+
 pub mod parents;
 
 ghost use Rattle.std.specs.Prelude.{◌≡◌, ◌+◌, ◌-◌, ◌≤◌, ◌<◌, length, get_or, set};

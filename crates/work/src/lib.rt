@@ -1,5 +1,7 @@
 // The work slice: where its tables begin (specs/Layout says what each holds, and that those that stand together lie apart), and how words of it are
 // read and cleared. No crate above names a word by its number.
+#![tactic(auto)]
+
 ghost use Rattle.std.specs.Prelude.{◌≡◌, ◌+◌, ◌≤◌, ◌<◌, length, get_or, replicate};
 ghost use Rattle.work.specs.Aside.{Cleared};
 

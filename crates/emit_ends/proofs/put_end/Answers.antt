@@ -1,0 +1,48 @@
+-- The way out that is read is the terminator of the i-th visited point, so its merge and its term are the point's; the tests of the text bound
+-- its labels and name its values.
+use mathlib.Core.Path.{sym, ap, ap₂, subst, ◌∙◌}
+use mathlib.Core.List.{◌++◌}
+use Prim.Native.Nat.{◌+◌, ◌-◌}
+use native.Mathlib.Omega.{arith}
+use Rattle.lifting.specs.Points.{Merge, Terminator}
+use Rattle.lifting.specs.Absorb.{merge_labels}
+use Rattle.func.specs.Decode.{func_of}
+use Rattle.general_laws.specs.Members.{All}
+use Rattle.lifting_runs.specs.Refers.{Named, refers}
+use Rattle.walk_points.specs.Numbers.{Small}
+use Rattle.terminators.specs.Kinds.{merge_of_law}
+use Rattle.emit_words.specs.Put.{put_more, put_same}
+use Rattle.emit_insts.specs.Parts.{merge_in, term_in}
+use Rattle.emit_insts.specs.Ready.{ready_visited}
+use Rattle.emit_insts.specs.Fits.{ins_named, merges_small, targets_small}
+use Rattle.emit_ends.proofs.put_end.Goals as goal
+
+pub term_kind-w-requires : goal.term_kind-w-requires
+term_kind-w-requires c =
+    let F = func_of c.args.func.now in
+    record { visited = ready_visited c.requires.emit_ready c.args.i c.requires.i_lt_m; i_lt_m = c.requires.i_lt_m }
+
+pub put_merge-a-requires : goal.put_merge-a-requires
+put_merge-a-requires c =
+    let F = func_of c.args.func.now in
+        let k = ready_visited c.requires.emit_ready c.args.i c.requires.i_lt_m in
+    record { emit_ready = c.requires.emit_ready; known = (
+        record { tables = k.tables; walkable = k.walkable; fits = c.term_kind-w.ensures.fits },
+        subst (λ (g : Merge). All Small (merge_labels g)) (ap (λ (t : Terminator). t.merge) c.term_kind-w.ensures.is ∙ merge_of_law F c.term_kind-w.result) (merges_small k c.args.i c.requires.i_lt_m),
+      ) }
+
+pub put_term-requires : goal.put_term-requires
+put_term-requires c =
+    let F = func_of c.args.func.now in
+        let k = ready_visited c.requires.emit_ready c.args.i c.requires.i_lt_m in
+    record { emit_ready = c.requires.emit_ready; m_nonzero = (omega (arith, c.requires.i_lt_m), record { tables = k.tables; walkable = k.walkable; fits = c.term_kind-w.ensures.fits }); all = (
+          subst (λ (t : Terminator). All Small t.targets) c.term_kind-w.ensures.is (targets_small k c.args.i c.requires.i_lt_m),
+          subst (λ (t : Terminator). All (Named F) t.ins) c.term_kind-w.ensures.is (ins_named F (refers F c.requires.emit_ready.stands.passes.references) k.walkable c.args.i (omega (arith, c.requires.i_lt_m, k.count))),
+        ) }
+
+pub returns : goal.returns
+returns c =
+    let F = func_of c.args.func.now in
+        let k = ready_visited c.requires.emit_ready c.args.i c.requires.i_lt_m in
+    put_same (put_more c.put_merge-a.ensures c.put_term.ensures)
+    (ap₂ (λ (g : Merge) (t : Terminator). merge_in F c.args.first g ++ term_in F c.args.first t) (sym (ap (λ (t : Terminator). t.merge) c.term_kind-w.ensures.is ∙ merge_of_law F c.term_kind-w.result)) (sym c.term_kind-w.ensures.is))

@@ -1,0 +1,18 @@
+-- The front and the function type's id are appended one behind the other, and with the fields of the func line for their words they are the head
+-- (`head_is`).
+use mathlib.Core.Path.{refl, ap}
+use mathlib.Core.List.{[], ◌∷◌}
+use Prim.Native.Nat.{ℕ, ◌-◌}
+use Rattle.func.specs.Decode.{func_of}
+use Rattle.emit_words.specs.Put.{id, put_more, put_same}
+use Rattle.emit_insts.specs.Parts.{front_same}
+use Rattle.lifting.specs.Instructions.{function_control, short}
+use Rattle.emit_list.specs.Points.{head_is}
+use Rattle.emit_list.proofs.put_function.Goals as goal
+
+pub returns : goal.returns
+returns c =
+    let F = func_of c.args.func.now in
+    put_same
+    (put_more (put_same c.put_front-a.ensures (front_same _ c.opcode.ensures c.func_attrs-attrs.ensures c.func_ret-ret.ensures refl (ap (short function_control) c.func_control.ensures)))
+    (put_same c.put_id.ensures (ap (λ (x : ℕ). id x ∷ []) c.func_type.ensures))) (head_is F c.args.first)

@@ -1,0 +1,16 @@
+-- The four parts are appended one behind the other, and of a function that passes the tests the list is these parts in this order (`list_is`).
+use mathlib.Core.Path.{sym, ap}
+use Rattle.func.specs.Decode.{func_of}
+use Rattle.lifting_blocks.specs.Flat.{up_to}
+use Rattle.emit_words.specs.Put.{put_more, put_same}
+use Rattle.emit_list.specs.Points.{list_is, point_items}
+use Rattle.emit_list.specs.Over.{shaped_passes}
+use Rattle.emit_list.proofs.put_list.Goals as goal
+
+pub returns : goal.returns
+returns c =
+    let F = func_of c.args.func.now in
+    put_same
+    (put_more c.put_function-a.ensures (put_more c.put_params-b.ensures
+    (put_more (put_same c.put_points-d.ensures (ap (up_to (point_items F c.args.first)) c.requires.ready.laid.count)) c.put_last.ensures)))
+    (sym (list_is F c.args.first (shaped_passes F c.requires.ready.stands.passes)))

@@ -1,0 +1,16 @@
+-- The kind that is read is the op's, and it tells the opcode: an INST's own, and else that of the call or the extended instruction
+-- (`op_opcode_is`).
+use mathlib.Core.Path.{◌∙◌}
+use Rattle.lifting.specs.Parts.{op_of}
+use Rattle.func.specs.Decode.{func_of}
+use Rattle.emit_lists.specs.OpcodeLaws.{op_opcode_is}
+use Rattle.emit_op_parts.proofs.op_opcode.Goals as goal
+
+pub returns-in-Inst : goal.returns-in-Inst
+returns-in-Inst c = op_opcode_is (op_of (func_of c.args.func.now) c.args.o).kind c.op_kind-kind.ensures c.in-Inst.is
+
+pub returns-in-Call : goal.returns-in-Call
+returns-in-Call c = c.opcode.ensures ∙ op_opcode_is (op_of (func_of c.args.func.now) c.args.o).kind c.op_kind-kind.ensures c.in-Call.is
+
+pub returns-in-Ext : goal.returns-in-Ext
+returns-in-Ext c = c.opcode-in-Ext.ensures ∙ op_opcode_is (op_of (func_of c.args.func.now) c.args.o).kind c.op_kind-kind.ensures c.in-Ext.is

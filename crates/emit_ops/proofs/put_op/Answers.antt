@@ -1,0 +1,27 @@
+-- The front, the id that is called and the operands are appended one behind the other, with the count of the latter two for the ids: that is the
+-- op (`op_is`), and the tests of the text name its operands.
+use Prim.Native.Nat.{◌-◌}
+use native.Mathlib.Omega.{arith}
+use Rattle.lifting.specs.Walk.{walk_of}
+use Rattle.lifting.specs.Absorb.{kept}
+use Rattle.func.specs.Decode.{func_of}
+use Rattle.lifting_runs.specs.Refers.{refers}
+use Rattle.emit_words.specs.Put.{put_more, put_same}
+use Rattle.emit_insts.specs.Parts.{op_is}
+use Rattle.emit_ops.proofs.put_op.Goals as goal
+
+pub op_front-a-requires : goal.op_front-a-requires
+op_front-a-requires c =
+    let F = func_of c.args.func.now in
+    record { emit_ready = c.requires.emit_ready; o_in_bounds = (c.requires.m_nonzero.1, omega (arith, c.value_count.ensures.upper_bound, c.callee_count.ensures.upper_bound)) }
+
+pub put_values-requires : goal.put_values-requires
+put_values-requires c =
+    let F = func_of c.args.func.now in
+    record { emit_ready = c.requires.emit_ready; m_nonzero = c.requires.m_nonzero.0; values_fit = (c.requires.m_nonzero.1, (refers F c.requires.emit_ready.stands.passes.references).named.operands c.args.o) }
+
+pub returns : goal.returns
+returns c =
+    let F = func_of c.args.func.now in
+    put_same (put_more c.op_front-a.ensures (put_more c.put_callee-b.ensures c.put_values.ensures))
+    (op_is F c.args.first (walk_of F) (kept (walk_of F)) c.args.o _ _ (omega (arith, c.value_count.ensures.value, c.callee_count.ensures.value)) c.callee-called.ensures)

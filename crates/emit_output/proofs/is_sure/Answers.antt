@@ -1,0 +1,18 @@
+-- The three tests in their order: a slice without room for any list, a function without a body, and a value without an id.
+use mathlib.Core.Path.{sym, ◌∙◌}
+use native.Mathlib.Omega.{arith}
+use Rattle.func.specs.Decode.{func_of}
+use Rattle.emit_output.specs.Sure.{sure_given, sure_none, sure_short}
+use Rattle.emit_output.proofs.is_sure.Goals as goal
+
+pub returns-then-room-lt-MOST_WORDS : goal.returns-then-room-lt-MOST_WORDS
+returns-then-room-lt-MOST_WORDS c = sure_short (func_of c.args.func.now) c.args.first c.args.room c.if-room-lt-MOST_WORDS.true
+
+pub returns-then-region_total-eq0 : goal.returns-then-region_total-eq0
+returns-then-region_total-eq0 c = sure_none (func_of c.args.func.now) c.args.first c.args.room (omega (arith, c.if-room-lt-MOST_WORDS.false)) (sym c.region_total.ensures ∙ c.if-region_total-eq0.true)
+
+pub all_given-requires : goal.all_given-requires
+all_given-requires c = record { stands = c.requires.ready.stands; regions_nonzero = omega (arith, c.region_total.ensures, c.if-region_total-eq0.false); ids = c.requires.ready.ids; ids_end_in_bounds = (omega (arith, c.requires.ready.laid.size), c.requires.ready.low) }
+
+pub returns : goal.returns
+returns c = c.all_given.ensures ∙ sure_given (func_of c.args.func.now) c.args.first c.args.room (omega (arith, c.if-room-lt-MOST_WORDS.false)) (omega (arith, c.region_total.ensures, c.if-region_total-eq0.false))

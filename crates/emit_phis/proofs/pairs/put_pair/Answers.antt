@@ -1,0 +1,28 @@
+-- The edge comes from a kept block (`origin_kept`) and what moves along it names something (`value_names`), so that both have ids, which are
+-- appended one behind the other.
+use mathlib.Core.Path.{sym, ap, ap₂, subst, ◌∙◌}
+use mathlib.Core.List.{[], ◌∷◌}
+use Prim.Native.Nat.{ℕ}
+use native.Mathlib.Omega.{arith}
+use Rattle.func.specs.Decode.{func_of}
+use Rattle.lifting_runs.specs.Refers.{Named}
+use Rattle.emit_names.specs.Ids.{id_in}
+use Rattle.emit_words.specs.Put.{id, put_more, put_same}
+use Rattle.emit_insts.specs.Ready.{ready_visited}
+use Rattle.emit_phis.specs.Along.{origin_kept}
+use Rattle.emit_phis.proofs.Steps.{from_low, value_low, value_names}
+use Rattle.emit_phis.proofs.pairs.put_pair.Goals as goal
+
+pub edge_value-value-requires : goal.edge_value-value-requires
+edge_value-value-requires c = record { visited = ready_visited c.requires.emit_ready c.args.i c.requires.i_lt_m.0; i_lt_m = (c.requires.i_lt_m.0, from_low c.requires.emit_ready c.args.i c.args.j c.requires.i_lt_m.0 c.requires.i_lt_m.1 c.requires.fact); j_in_bounds = omega (arith, value_low c.requires.emit_ready c.args.i c.args.j c.requires.i_lt_m.0 c.requires.i_lt_m.1 c.requires.fact) }
+
+pub id_of-requires : goal.id_of-requires
+id_of-requires c = record { emit_ready = c.requires.emit_ready; m_nonzero = omega (arith, c.requires.i_lt_m.0); v_value = subst (Named (func_of c.args.func.now)) (sym c.edge_value-value.ensures) (value_names c.requires.emit_ready c.args.i c.args.j c.requires.i_lt_m.0 c.requires.i_lt_m.1 c.requires.fact) }
+
+pub block_label-requires : goal.block_label-requires
+block_label-requires c = record { emit_ready = c.requires.emit_ready; p_lt_m = from_low c.requires.emit_ready c.args.i c.args.j c.requires.i_lt_m.0 c.requires.i_lt_m.1 c.requires.fact; not_stands = origin_kept (func_of c.args.func.now) c.args.i c.requires.fact }
+
+pub returns : goal.returns
+returns c =
+    put_same (put_more c.put_id-a.ensures c.put_id.ensures)
+    (ap₂ (λ (x y : ℕ). id x ∷ id y ∷ []) (c.id_of.ensures ∙ ap (id_in (func_of c.args.func.now) c.args.first) c.edge_value-value.ensures) c.block_Label.ensures)

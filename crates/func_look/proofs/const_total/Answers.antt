@@ -1,0 +1,11 @@
+-- The pool of constants is within its room, so that its count is how many constants the function has (`const_total`).
+use mathlib.Core.Path.{sym, ◌∙◌}
+use lib.Dec.{lit<}
+use Rattle.func.specs.Tables.{const_total}
+use Rattle.func_look.proofs.const_total.Goals as goal
+
+pub count-requires : goal.count-requires
+count-requires c = (c.requires.size, lit< tt)
+
+pub returns : goal.returns
+returns c = c.wide.ensures ∙ c.count.ensures ∙ sym (const_total c.requires)

@@ -1,0 +1,11 @@
+-- The row holds the run of a ctrl line's immediates (`ctrl_imms`), whose length is the list's (`list_count`).
+use mathlib.Core.Path.{◌∙◌}
+use lib.Dec.{lit<}
+use Rattle.func.specs.Tables.{ctrl_in, ctrl_imms, list_count}
+use Rattle.func_look.proofs.ctrl_imm_count.Goals as goal
+
+pub run_count-requires : goal.run_count-requires
+run_count-requires c = record { within = ctrl_in c.requires.tables c.args.c c.requires.c_in_bounds; j_bound = lit< tt }
+
+pub returns : goal.returns
+returns c = c.run_count.ensures ∙ list_count (ctrl_imms c.requires.tables c.args.c c.requires.c_in_bounds)

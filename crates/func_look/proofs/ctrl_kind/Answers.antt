@@ -1,0 +1,13 @@
+-- Word 2 of a ctrl line's row is the number of its kind (`ctrl_words_are`), and from that number comes the kind (`ctrl_kind_law`).
+use mathlib.Core.Path.{ap, ◌∙◌}
+use lib.Dec.{lit<}
+use Rattle.func.specs.Decode.{func_of}
+use Rattle.func.specs.Kinds.{ctrl_kind_from, ctrl_kind_law}
+use Rattle.func.specs.Tables.{ctrl_line_of, ctrl_in, ctrl_words_are}
+use Rattle.func_look.proofs.ctrl_kind.Goals as goal
+
+pub word-requires : goal.word-requires
+word-requires c = record { within = ctrl_in c.requires.tables c.args.c c.requires.c_in_bounds; j_bound = lit< tt }
+
+pub returns : goal.returns
+returns c = c.ctrl_kind_of.ensures ∙ ap ctrl_kind_from (c.word.ensures ∙ ctrl_words_are c.requires.tables c.args.c c.requires.c_in_bounds 2 (lit< tt)) ∙ ctrl_kind_law (ctrl_line_of (func_of c.args.func.now) c.args.c).1.kind

@@ -1,0 +1,11 @@
+-- The region of a ctrl line is word 0 of its row (`ctrl_words_are`).
+use mathlib.Core.Path.{◌∙◌}
+use lib.Dec.{lit<}
+use Rattle.func.specs.Tables.{ctrl_in, ctrl_words_are}
+use Rattle.func_look.proofs.ctrl_region.Goals as goal
+
+pub word-requires : goal.word-requires
+word-requires c = record { within = ctrl_in c.requires.tables c.args.c c.requires.c_in_bounds; j_bound = lit< tt }
+
+pub returns : goal.returns
+returns c = c.wide.ensures ∙ c.word.ensures ∙ ctrl_words_are c.requires.tables c.args.c c.requires.c_in_bounds 0 (lit< tt)

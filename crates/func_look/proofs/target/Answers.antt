@@ -1,0 +1,15 @@
+-- The row holds the run of a ctrl line's targets (`ctrl_targets`), and so far behind its start stands the list's element (`item_is`).
+use mathlib.Core.Path.{ap, ◌∙◌}
+use lib.Dec.{lit<}
+use Rattle.func.specs.Decode.{decode_number}
+use Rattle.func.specs.Tables.{ctrl_in, ctrl_targets, item_low, item_in, item_is}
+use Rattle.func_look.proofs.target.Goals as goal
+
+pub run_at-requires : goal.run_at-requires
+run_at-requires c = record { within = ctrl_in c.requires.tables c.args.c c.requires.c_in_bounds; j_bound = (lit< tt, item_low (ctrl_targets c.requires.tables c.args.c c.requires.c_in_bounds) c.args.i c.requires.i_in_bounds) }
+
+pub target_ref-requires : goal.target_ref-requires
+target_ref-requires c = item_in (ctrl_targets c.requires.tables c.args.c c.requires.c_in_bounds) c.args.i c.requires.i_in_bounds c.run_at.ensures
+
+pub returns : goal.returns
+returns c = c.target_ref.ensures ∙ ap decode_number (item_is (ctrl_targets c.requires.tables c.args.c c.requires.c_in_bounds) c.args.i c.requires.i_in_bounds _ c.run_at.ensures)

@@ -1,0 +1,19 @@
+-- The run in the region's row says where its nodes start, and the entry so far behind is the node's number.
+use mathlib.Core.Path.{sym, ap, subst, ◌∙◌}
+use Prim.Native.Nat.{ℕ}
+use lib.Dec.{lit<}
+use Rattle.func.specs.Layout.{node_refs}
+use Rattle.func.specs.Tables.{Within, word}
+use Rattle.func_rows.proofs.row_node.Goals as goal
+
+pub run_at-at-requires : goal.run_at-at-requires
+run_at-at-requires c = record { within = c.requires.within; j_bound = (lit< tt, c.requires.i_bound.0) }
+
+pub word-requires : goal.word-requires
+word-requires c = record { within = subst (Within node_refs _) (sym c.run_at-at.ensures) c.requires.i_bound.1; j_bound = lit< tt }
+
+pub wide-requires : goal.wide-requires
+wide-requires c = tt
+
+pub returns : goal.returns
+returns c = c.wide.ensures ∙ c.word.ensures ∙ ap (λ (a : ℕ). word node_refs c.args.func.now a 0) c.run_at-at.ensures

@@ -1,0 +1,35 @@
+-- An accepted text stands in the function slice over a clear work slice (`accepted`, `work_cleared`), which is what its lines ask; of any other the
+-- refusal's line is put.
+use mathlib.Core.Path.{sym, ap, subst, ◌∙◌}
+use Prim.Native.Nat.{ℕ}
+use mathlib.Core.List.{List}
+use lib.ListN.{length}
+use Rattle.lifting.specs.Answer as answer
+use Rattle.func.specs.Decode.{func_of}
+use Rattle.results.specs.declared.Parsed.{Parsed}
+use Rattle.reader.specs.Parse.{answer_of, work_after}
+use Rattle.reader.specs.Same.{accepted, work_cleared}
+use Rattle.print_bytes.specs.Put.{put_bytes_same}
+use Rattle.print_bytes.specs.Shown.{refused_bytes}
+use Rattle.print_lines.specs.Lines.{blocks_bytes}
+use Rattle.print_blocks.specs.Stand.{LaidOut, WorkAfter}
+use Rattle.print_blocks.proofs.put_answer.Goals as goal
+
+pub put_function-requires : goal.put_function-requires
+put_function-requires c =
+    let e = ap (λ (r : Parsed). answer_of r c.parse-r.new.work) (sym c.in-Function.is) ∙ c.parse-r.ensures.func_after in
+    let z = work_cleared c.args.text.now c.args.func.now c.parse-r.new.work c.args.work.now c.parse-r.new.1.1.0 e c.parse-r.ensures.work_after in
+    record { stands = accepted c.args.text.now c.args.func.now c.parse-r.new.work (length c.args.work.now) e c.parse-r.ensures.func_after_2; work_need_in_bounds = z.0 }
+
+pub returns-in-Function : goal.returns-in-Function
+unfolding blocks_bytes
+returns-in-Function c =
+    let e = ap (λ (r : Parsed). answer_of r c.parse-r.new.work) (sym c.in-Function.is) ∙ c.parse-r.ensures.func_after in
+    record { put_bytes = put_bytes_same c.put_function.ensures.put_bytes (ap blocks_bytes e); func_after = c.parse-r.ensures.func_after_2; work_after = subst (λ (r : answer.Parsed). WorkAfter r c.args.work.now c.put_function.new.out) e
+            (subst (λ (z : List ℕ). LaidOut (func_of c.parse-r.new.work) (func_of c.parse-r.new.work).regions z c.put_function.new.out) (c.parse-r.ensures.work_after ∙ ap (λ (r : answer.Parsed). work_after r c.args.work.now) (sym e)) c.put_function.ensures.laid_out) }
+
+pub returns-in-Refused : goal.returns-in-Refused
+unfolding blocks_bytes
+returns-in-Refused c =
+    let e = ap (λ (r : Parsed). answer_of r c.parse-r.new.work) (sym c.in-Refused.is) ∙ c.parse-r.ensures.func_after in
+    record { put_bytes = put_bytes_same c.refused.ensures (ap refused_bytes c.number.ensures ∙ ap blocks_bytes e); func_after = c.parse-r.ensures.func_after_2; work_after = subst (λ (r : answer.Parsed). WorkAfter r c.args.work.now c.parse-r.new.1.1.0) e (c.parse-r.ensures.work_after ∙ ap (λ (r : answer.Parsed). work_after r c.args.work.now) (sym e)) }

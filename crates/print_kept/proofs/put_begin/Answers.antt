@@ -1,0 +1,19 @@
+-- A point that is absorbed begins nothing, and any other puts its start: the two cases of `begin_bytes`.
+use mathlib.Core.Path.{sym, ap, ◌∙◌}
+use mathlib.Core.Bool.{Bool}
+use native.Mathlib.Omega.{arith}
+use Rattle.func.specs.Decode.{func_of}
+use Rattle.terminators.specs.At.{point_at}
+use Rattle.print_bytes.specs.Put.{put_bytes_none, put_bytes_same}
+use Rattle.print_lines.specs.Positions.{begin_bytes}
+use Rattle.print_kept.proofs.put_begin.Goals as goal
+
+pub returns-then-joined : goal.returns-then-joined
+returns-then-joined c =
+    let F = func_of c.args.func.now in
+    put_bytes_same (put_bytes_none (omega arith) (omega arith)) (ap (λ (b : Bool). begin_bytes F b (point_at F c.args.i)) (sym c.if-joined.true ∙ c.joined.ensures))
+
+pub returns : goal.returns
+returns c =
+    let F = func_of c.args.func.now in
+    put_bytes_same c.put_start.ensures (ap (λ (b : Bool). begin_bytes F b (point_at F c.args.i)) (sym c.if-joined.false ∙ c.joined.ensures))

@@ -1,0 +1,18 @@
+-- The loop's invariant: the first k merge labels, which come before the targets, are put, and the others are left. The measure is how many are
+-- left; each is a point with a number below 512 (`merge_small`).
+use mathlib.Core.Path.{◌≡◌}
+use Prim.Native.Nat.{◌-◌, ◌≤◌}
+use lib.ListN.{length, drop}
+use Rattle.lifting.specs.Absorb.{merge_labels}
+use Rattle.func.specs.Decode.{func_of}
+use Rattle.terminators.specs.At.{visited_block}
+use Rattle.print_bytes.specs.Put.{Part}
+use Rattle.print_lines.specs.Lines.{points_bytes}
+use Rattle.print_labels.proofs.put_merge.Given as goal
+
+abbrev pub invariant-loop-k : goal.invariant-loop-k
+invariant-loop-k l = let l = merge_labels (visited_block (func_of l.func) l.i).term.merge in
+    (l.n ≡ length l) × (l.k ≤ l.n) × Part l.initial.out l.at (points_bytes l) l.out l.next (points_bytes (drop l.k l))
+
+abbrev pub decreases-loop-k : goal.decreases-loop-k
+decreases-loop-k l = l.n - l.k

@@ -1,0 +1,12 @@
+-- The two numbers are read behind the literal (`behind_reads`), and without the literal they are missed (`behind_misses`).
+use Rattle.lifting.specs.Codec.{seq}
+use Rattle.lifting.specs.Grammar.{field}
+use Rattle.read_cursor.specs.Answers.{step_of}
+use Rattle.read_cursor.specs.Laws.{by_answer, behind_reads, behind_misses}
+use Rattle.read_fields.proofs.pair_after.Goals as goal
+
+pub returns-in_default : goal.returns-in_default
+returns-in_default c = behind_misses _ (seq field field).read (by_answer step_of c.in_default.is c.word.ensures)
+
+pub returns : goal.returns
+returns c = behind_reads _ (seq field field).read (by_answer step_of c.in-On.is c.word.ensures) c.pair.ensures

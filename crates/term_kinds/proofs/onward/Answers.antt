@@ -1,0 +1,13 @@
+-- From such a point the walk goes on to the point that it visits next (`straight_on`).
+use mathlib.Core.Path.{◌≡◌, ap, ◌∙◌}
+use Prim.Native.Nat.{ℕ, ◌+◌}
+use native.Mathlib.Omega.{arith}
+use lib.ListN.{get_or}
+use Rattle.work.specs.Layout.{points_at}
+use Rattle.terminators.specs.Laws.{straight_on}
+use Rattle.term_kinds.proofs.onward.Goals as goal
+
+pub returns : goal.returns
+returns c =
+    let e : points_at + (c.args.i + 1) ≡ points_at + c.args.i + 1 = omega arith in
+    straight_on c.requires.visited c.args.i c.requires.i_lt_m c.requires.i_value (c.number.ensures ∙ ap (λ (x : ℕ). get_or c.args.work.now x 0) e)
