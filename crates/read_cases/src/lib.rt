@@ -2,8 +2,9 @@
 // A case longer than the room for it keeps its first bytes, which decide what is printed for it.
 #![tactic(auto)]
 
-ghost use Rattle.std.specs.Prelude.{◌≡◌, ◌+◌, ◌-◌, ◌≤◌, ◌<◌, length, take, drop};
+ghost use Rattle.std.specs.Prelude.{◌≡◌, ◌+◌, ◌-◌, ◌≤◌, ◌<◌, ◌↔◌, IfOk, OnErr, IsTrue, length, take, drop};
 ghost use Rattle.std.proofs.Math.Seq.{paste};
+ghost use Rattle.std.specs.Io.KnownBytes.{Consumes, IsAtEnd, Keeps};
 ghost use Rattle.read_first.specs.Cut.{input_room};
 ghost use Rattle.command.specs.Opened.{line_room};
 ghost use Rattle.read_marks.specs.Cut.{cut_of, fitting_bytes};
@@ -11,6 +12,8 @@ ghost use Rattle.read_cases.specs.Held.{CountsWithin, held_after, held_of, held_
 ghost use Rattle.read_cases.specs.Kept.{end_mark};
 
 use read_marks::{cut, keep};
+use std::io;
+use std::io::Read;
 
 // The bytes of a line `%%`.
 const MARK: usize = 3;
@@ -99,17 +102,20 @@ pub fn rested(state: State) -> State
     state
 }
 
-// Reads the next piece.
-pub fn refilled(buffer: &mut [u8], state: State) -> State
-    ensures { (result.len ≡ state.len) × (result.matched ≡ state.matched) × (result.from ≡ 0) × (result.till ≤ length buffer.new) }
+// Reads the next piece. No bytes come only at the end, where there is room for one.
+pub fn refilled<R: Read>(reader: &mut R, buffer: &mut [u8], state: State) -> io::Result<State>
+    ensures state { IfOk result (λ next. (next.len ≡ state.len) × (next.matched ≡ state.matched) × (next.from ≡ 0) × (next.till ≤ length buffer.new)) }
+    ensures more { IfOk result (λ next. IsTrue next.more ↔ 0 < next.till) }
+    ensures came { IfOk result (λ next. Consumes (R.remaining reader.old) (R.remaining reader.new) (take next.till buffer.new)) }
+    ensures none_came { IfOk result (λ next. next.till ≡ 0 → 0 < length buffer.old → IsAtEnd (R.remaining reader.new)) }
+    ensures failed { OnErr result (Keeps (R.remaining reader.old) (R.remaining reader.new)) }
 {
-    let got = libc::read(0, buffer);
-    let n = io::count(got, buffer);
-    State {
+    let n = reader.read(buffer)?;
+    Ok(State {
         len: state.len,
         matched: state.matched,
         from: 0,
         till: n,
         more: 0 < n,
-    }
+    })
 }
