@@ -46,7 +46,8 @@ pub fn unmarked(text: &[u8], len: usize) -> &[u8]
 
 // Before anything was read.
 pub fn start() -> State
-    ensures { (result.len ≡ 0) × (result.matched ≡ 1) × (result.from ≡ 0) × (result.till ≡ 0) }
+    ensures none { (result.len ≡ 0) × (result.matched ≡ 1) × (result.from ≡ 0) × (result.till ≡ 0) }
+    ensures more { IsTrue result.more }
 {
     State {
         len: 0,
@@ -72,6 +73,7 @@ pub fn taken(piece: &[u8], text: &mut [u8], state: State) -> State
     ensures kept { text.new ≡ paste text.old state.len (taken_part state.from result.from piece.now) (fitting_bytes text.old state.len (taken_part state.from result.from piece.now)) }
     ensures held_case { held_after (held_case text.new (len_after result.matched result.len) result.matched) (drop result.from piece.now) ≡ held_after (held_of text.old state) (drop state.from piece.now) }
     ensures within { CountsWithin state.till (length text.new) result × (length text.new ≡ length text.old) }
+    ensures rest { (result.till ≡ state.till) × IsTrue result.more }
 {
     let from = state.from;
     let place = cut(piece, from, state.matched);
@@ -88,7 +90,8 @@ pub fn taken(piece: &[u8], text: &mut [u8], state: State) -> State
 
 // A case that has ended is held no longer.
 pub fn rested(state: State) -> State
-    ensures { (result.len ≡ len_after state.matched state.len) × (result.matched ≡ state.matched) × (result.from ≡ state.from) × (result.till ≡ state.till) × (result.len ≤ state.len) }
+    ensures rested { (result.len ≡ len_after state.matched state.len) × (result.matched ≡ state.matched) × (result.from ≡ state.from) × (result.till ≡ state.till) × (result.len ≤ state.len) }
+    ensures more { result.more ≡ state.more }
 {
     if state.matched == 4 {
         return State {

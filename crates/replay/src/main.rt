@@ -1,8 +1,13 @@
 // Runs stored cases: reads a batch on standard input, case by case, and prints what the command that a case names prints for its input.
 #![tactic(auto)]
 
-ghost use Rattle.std.specs.Prelude.{◌≡◌, IfOk, length};
+ghost use Rattle.std.specs.Prelude.{◌≡◌, ◌+◌, ◌-◌, ◌^◌, ◌≤◌, ◌<◌, IfOk, IfSome, OnOk, length, take};
+ghost use Rattle.std.specs.Io.KnownBytes.{Appends};
+ghost use Rattle.command.specs.Opened.{line_room};
+ghost use Rattle.read_first.specs.Cut.{input_room};
 ghost use Rattle.read_cases.specs.Held.{CountsWithin};
+ghost use Rattle.read_cases.specs.Kept.{end_mark};
+ghost use Rattle.replay.specs.Batch.{Rests, TurnsWell, batch_bytes, printed_if};
 
 use print_command::print_case;
 use read_cases::{State, refilled, rested, taken, unmarked};
@@ -15,7 +20,9 @@ const PIECE: usize = 65536;
 // A case that has ended is run.
 fn run<W: Write>(writer: &mut W, text: &[u8], state: State) -> io::Result<State>
     requires { CountsWithin 65536 (length text.now) state }
-    ensures { IfOk result (CountsWithin 65536 (length text.now)) }
+    ensures counts { IfOk result (CountsWithin 65536 (length text.now)) }
+    ensures rested { IfOk result (Rests state) }
+    ensures printed { OnOk result (Appends (W.contents writer.old) (W.contents writer.new) (printed_if state.matched (take (state.len - 3) text.now))) }
 {
     if state.matched == 4 {
         print_case(writer, unmarked(text, state.len))?;
@@ -34,6 +41,7 @@ fn step<R: Read, W: Write>(
     requires { CountsWithin 65536 (length text.old) state × (length buffer.old ≡ 65536) }
     ensures state { IfOk result (CountsWithin 65536 (length text.new)) }
     ensures rooms { (length text.new ≡ length text.old) × (length buffer.new ≡ 65536) }
+    ensures turn { IfOk result (λ next. TurnsWell (W.contents writer.old) (W.contents writer.new) (R.remaining reader.old) (R.remaining reader.new) buffer.old text.old state buffer.new text.new next) }
 {
     let till = state.till;
     if state.from < till {
@@ -51,6 +59,7 @@ fn all<R: Read, W: Write>(
     text: &mut [u8],
 ) -> io::Result<()>
     requires { length buffer.old ≡ 65536 }
+    ensures printed { OnOk result (IfSome (R.remaining reader.old) (λ batch. line_room + input_room + length end_mark ≤ length text.old → length batch < 2 ^ 63 → Appends (W.contents writer.old) (W.contents writer.new) (batch_bytes batch))) }
 {
     let mut turns = u64::MAX;
     let mut state = read_cases::start();
@@ -61,8 +70,15 @@ fn all<R: Read, W: Write>(
     Ok(())
 }
 
-fn main(rt: HostRuntime) -> io::Result<()> {
+// Answers a batch: for each of its cases it prints what the case's command prints for its input, and a line `%%`.
+fn answer<R: Read, W: Write>(reader: &mut R, writer: &mut W) -> io::Result<()>
+    ensures printed { OnOk result (IfSome (R.remaining reader.old) (λ batch. length batch < 2 ^ 63 → Appends (W.contents writer.old) (W.contents writer.new) (batch_bytes batch))) }
+{
     let mut buffer = [0u8; PIECE];
     let mut text = read_cases::room();
-    all(&mut rt.reader(), &mut io::writer(&rt), &mut buffer, &mut text)
+    all(reader, writer, &mut buffer, &mut text)
+}
+
+fn main(rt: HostRuntime) -> io::Result<()> {
+    answer(&mut rt.reader(), &mut io::writer(&rt))
 }
