@@ -74,8 +74,8 @@ def answers(command, cases, **options):
 
 
 def program(name):
-    """A program of the repository, as `rt check` leaves it."""
-    return os.path.join(ROOT, 'target', 'bin', name)
+    """A program of the repository, as `rt run` in its folder leaves it."""
+    return os.path.join(ROOT, 'crates', name, 'out', name)
 
 
 def replayed(command, inputs):

@@ -1,7 +1,7 @@
 /* Sighvona: from the region text of one function to SPIR-V instructions.
  *
- * The library is target/staticlib/libsighvona.a, which `rt staticlib sighvona` writes (x86-64, System V). It is proved that for every text,
- * first id and set of slices a call gives what its definition gives, and nothing is asked of the caller but that every pointer is valid and
+ * The library is crates/sighvona/out/libsighvona.a, which `rt lib` in crates/sighvona writes (x86-64, System V). It is proved that for every
+ * text, first id and set of slices a call gives what its definition gives, and nothing is asked of the caller but that every pointer is valid and
  * aligned for its count, that the slices lent for writing, `words` and `next` do not overlap with one another or with the text, and that
  * `words` and `next` are not null. A slice of count 0 needs no memory. The library keeps nothing between calls, allocates nothing and calls
  * nothing but memset, so calls with slices of their own may run at once. The most stack that a call was measured to take is
@@ -31,7 +31,7 @@ enum {
     SIGHVONA_TEXT_BYTES = 32768,
     /* the highest id that is given: the next free id, a module's bound, is one more at most */
     SIGHVONA_HIGHEST_ID = 4194302,
-    /* No list has more words, which is proved (crates/lifting_sizes, `list-bound`): with an output slice of so many, refusal 11 never comes. */
+    /* No list has more words, which is proved (crates/lifting_sizes, `list_bound`): with an output slice of so many, refusal 11 never comes. */
     SIGHVONA_MAX_WORDS = 23184
 };
 

@@ -60,8 +60,8 @@ pub const TEXT_BYTES: usize = 32_768;
 /// The highest id that is given: the next free id, a module's bound, is one more at most.
 pub const HIGHEST_ID: u32 = 4_194_302;
 
-/// No list has more words, which is proved (crates/sizes, `list-bound`): with an output slice of so
-/// many, [`Refusal::Output`] never comes.
+/// No list has more words, which is proved (crates/lifting_sizes, `list_bound`): with an output
+/// slice of so many, [`Refusal::Output`] never comes.
 pub const MAX_WORDS: usize = 23_184;
 
 /// What an accepted call gives beside the list.

@@ -2,15 +2,20 @@
 --     opened_of     the command, and the place where the input starts
 --     opened_cut   the first bytes of a case tell it
 --     opened_low   the input starts among them
+--     index_of      the place of a byte in a list
 --     word_command, opened_none, opened_line    by what is found there
-use Rattle.std.specs.Prelude.{◌≡◌, refl, Bool, true, false, cond, List, [], ◌∷◌, ℕ, suc, ◌+◌, ◌≤◌, eqb, length, take}
-use Rattle.std.proofs.Math.Path.{sym, ap}
-use Rattle.std.proofs.Common.{◌∙◌, arith, length-take, take_all, take-take, eq-eqb, ne_eqb}
+use Rattle.std.specs.Prelude.{◌≡◌, refl, Bool, true, false, not, cond, List, ℕ, ◌+◌, ◌≤◌, eqb, ◌==◌, length, take}
+use Rattle.std.specs.List.{position_or_len}
+use Rattle.std.proofs.Common.{◌∙◌, arith, sym, ap, length-take, take-take, eq-eqb, ne_eqb}
 use Rattle.std.proofs.lemmas.Bool.{eqb-false}
-use Rattle.bytes.specs.Bytes.{index_after, index_of, slice}
+use Rattle.std.proofs.lemmas.List.Sums.{prefix_len-le-length}
 use Rattle.command.specs.declared.Command.{Command}
 use Rattle.command.specs.declared.Command.TheVariants.{Unknown}
 use Rattle.command.specs.Named.{name_of}
+
+-- the place of the first such byte in a list, or the list's length where none stands there
+abbrev pub index_of : ℕ → List ℕ → ℕ
+index_of b l = position_or_len (λ x. x == b) l
 
 -- the bytes in which the line must end
 abbrev pub line_room : ℕ
@@ -33,13 +38,7 @@ pub opened_cut : (k : ℕ) → line_room ≤ k → (case : List ℕ) → opened_
 opened_cut k h case = ap opened_by (take-take line_room k case h)
 
 index_low : (b : ℕ) (l : List ℕ) → index_of b l ≤ length l
-unfolding index_of index_after
-index_low b [] = omega arith
-index_low b (x ∷ l) = go (index_low b l) (eqb x b)
-  where
-    go : index_of b l ≤ length l → (t : Bool) → index_after t (index_of b l) ≤ suc (length l)
-    go ih true = omega arith
-    go ih false = omega arith
+index_low b l = prefix_len-le-length (λ x. not (x == b)) l
 
 opened_below : (head : List ℕ) → (opened_by head).1 ≤ length head
 unfolding opened_by
@@ -53,19 +52,13 @@ opened_below head = go (eqb (index_of 10 head) (length head)) refl
 pub opened_low : (case : List ℕ) → (opened_of case).1 ≤ line_room
 opened_low case = omega (arith, opened_below (take line_room case), length-take line_room case)
 
--- ---- what `find` finds in all of the bytes
+-- ---- by what `find` finds
 
-found : (l : List ℕ) (b n : ℕ) → n ≡ 0 + index_of b (slice 0 (length l) l) → n ≡ index_of b l
-unfolding slice
-found l b n e =
-    let same : 0 + index_of b (take (length l) l) ≡ index_of b (take (length l) l) = omega arith in
-    e ∙ same ∙ ap (index_of b) (take_all (length l) l (omega arith))
-
-pub word_command : (line : List ℕ) (n : ℕ) (r : Command) → n ≡ 0 + index_of 32 (slice 0 (length line) line) → r ≡ name_of (take n line) → r ≡ word_of line
+pub word_command : (line : List ℕ) (n : ℕ) (r : Command) → n ≡ index_of 32 line → r ≡ name_of (take n line) → r ≡ word_of line
 unfolding word_of
-word_command line n r e f = f ∙ ap (λ (k : ℕ). name_of (take k line)) (found line 32 n e)
+word_command line n r e f = f ∙ ap (λ (k : ℕ). name_of (take k line)) e
 
-module _ (case head : List ℕ) (n : ℕ) (is : head ≡ take line_room case) (at : n ≡ 0 + index_of 10 (slice 0 (length head) head)) where
+module _ (case head : List ℕ) (n : ℕ) (is : head ≡ take line_room case) (at : n ≡ index_of 10 head) where
   abbrev by : Bool → ℕ → Command × ℕ
   by none end = cond none (Unknown, 0) (word_of (take end head), end + 1)
 
@@ -73,7 +66,7 @@ module _ (case head : List ℕ) (n : ℕ) (is : head ≡ take line_room case) (a
   unfolding opened_by
   opened_is b e =
       sym (ap (λ (x : Bool). by x n) e)
-      ∙ ap (λ (k : ℕ). by (eqb k (length head)) k) (found head 10 n at)
+      ∙ ap (λ (k : ℕ). by (eqb k (length head)) k) at
       ∙ ap opened_by is
 
   pub opened_none : n ≡ length head → (Unknown, 0) ≡ opened_of case

@@ -3,9 +3,7 @@
 
 ghost use Rattle.std.specs.Prelude.{◌≡◌, ◌≤◌, length, take};
 ghost use Rattle.command.specs.Named.{chosen_by, name_of, same_bytes};
-ghost use Rattle.command.specs.Opened.{line_room, opened_of, word_of};
-
-use bytes::scan::find;
+ghost use Rattle.command.specs.Opened.{index_of, line_room, opened_of, word_of};
 
 // The list of an input with a first line; the reader's answer to a text; a text's kept blocks; what there is; and a word that names none.
 #[derive(Clone, Copy)]
@@ -81,11 +79,24 @@ fn front(case: &[u8]) -> &[u8]
     case
 }
 
+// The place of a byte in a line, or the line's length where it doesn't stand there.
+fn find(line: &[u8], byte: u8) -> usize
+    ensures place { result ≡ index_of byte line.now }
+    ensures in_bounds { result ≤ length line.now }
+{
+    for (i, b) in line.iter().enumerate() {
+        if *b == byte {
+            return i;
+        }
+    }
+    line.len()
+}
+
 // The command that the first word of a line names.
 fn first_word(line: &[u8]) -> Command
     ensures { result ≡ word_of line.now }
 {
-    let n = find(line, 0, line.len(), b' ');
+    let n = find(line, b' ');
     named(&line[..n])
 }
 
@@ -95,7 +106,7 @@ pub fn opened(case: &[u8]) -> Case
     ensures at_in_bounds { result.at ≤ length case.now }
 {
     let head = front(case);
-    let end = find(head, 0, head.len(), b'\n');
+    let end = find(head, b'\n');
     if end == head.len() {
         return Case {
             command: Command::Unknown,

@@ -2,9 +2,8 @@
 #![tactic(auto)]
 
 use command::Command;
+use std::io;
 
-fn main() {
-    let mut bytes = [0u8; read_input::INPUT];
-    let n = read_input::read(Command::Lift, &mut bytes);
-    print_command::print(Command::Lift, &bytes[..n]);
+fn main(rt: HostRuntime) -> io::Result<()> {
+    print_command::run(&mut rt.reader(), &mut io::writer(&rt), Command::Lift)
 }

@@ -2,8 +2,10 @@
 --     printed_known    nothing that follows changes it, once `input::known` says so
 --     printed_cut      an input's first bytes, as many as decide or more
 --     case_cut         the same of a stored case
-use Rattle.std.specs.Prelude.{◌≡◌, refl, true, List, [], ◌∷◌, ◌++◌, ℕ, zero, suc, ◌+◌, ◌-◌, ◌≤◌, drop, take}
-use Rattle.std.proofs.Common.{sym, ap, ◌∙◌, arith}
+--     printed_for_all  what is told of the bytes that were read holds of the whole input, where they decide or are all
+use Rattle.std.specs.Prelude.{◌≡◌, ◌⊎◌, refl, true, Option, None, Some, IfSome, IsTrue, List, [], ◌∷◌, ◌++◌, ℕ, zero, suc, ◌+◌, ◌-◌, ◌≤◌, drop, take}
+use Rattle.std.specs.Io.KnownBytes.{Consumes, IsAtEnd}
+use Rattle.std.proofs.Common.{sym, ap, subst, ◌∙◌, append-nil, ⊎_elim, arith}
 use Rattle.std.proofs.Math.Seq.{take-nil}
 use Rattle.command.specs.declared.Command.{Command}
 use Rattle.command.specs.declared.Command.TheVariants.{Lift, Read, Blocks, Help, Unknown}
@@ -47,3 +49,13 @@ case_cut k h case =
     ap (λ (x : Command × ℕ). printed_for x.0 (drop x.1 (take k case))) (opened_cut k (omega arith) case)
     ∙ ap (printed_for o.0) (drop_take o.1 k case)
     ∙ printed_cut o.0 (k - o.1) (omega (arith, opened_low case)) (drop o.1 case)
+
+-- `before` and `after` are what a reader has left.
+pub printed_for_all : (command : Command) (before after : Option (List ℕ)) (part : List ℕ) (P : List ℕ → Type 0) → Consumes before after part
+    → IsTrue (known_for command part) ⊎ IsAtEnd after → P (printed_for command part) → IfSome before (λ input. P (printed_for command input))
+printed_for_all command None after part P read decided printed = tt
+printed_for_all command (Some all) None part P read decided printed = absurd read
+printed_for_all command (Some all) (Some left) part P read decided printed =
+    let same : printed_for command part ≡ printed_for command (part ++ left) =
+    ⊎_elim (λ known. printed_known command part known left) (λ none. ap (printed_for command) (sym (ap (λ (l : List ℕ). part ++ l) none ∙ append-nil part))) decided in
+    subst P (same ∙ ap (printed_for command) (sym read)) printed

@@ -1,7 +1,8 @@
 // What each command prints for an input, and what is printed for a stored case.
 #![tactic(auto)]
 
-ghost use Rattle.std.specs.Prelude.{◌++◌, length};
+ghost use Rattle.std.specs.Prelude.{◌++◌, IfSome, OnOk, length};
+ghost use Rattle.std.specs.Io.KnownBytes.{Appends};
 ghost use Rattle.lifting.specs.Bytes.{bytes};
 ghost use Rattle.print_bytes.specs.Put.{PutBytes};
 ghost use Rattle.print_command.specs.Printed.{case_bytes, command_bytes, printed_for};
@@ -12,6 +13,8 @@ use print_bytes::put_bytes;
 use print_lifted::put_input;
 use print_read::put_read;
 use print_room::ROOM;
+use std::io;
+use std::io::{Read, Write};
 
 // By the command, with slices that the caller lends.
 fn put_of(
@@ -59,15 +62,28 @@ pub fn put_case(out: &mut [u8], case: &[u8]) -> usize
 }
 
 // Prints what a command prints for an input.
-pub fn print(command: Command, input: &[u8]) {
+pub fn print<W: Write>(writer: &mut W, command: Command, input: &[u8]) -> io::Result<()>
+    ensures printed { OnOk result (Appends (W.contents writer.old) (W.contents writer.new) (printed_for command input.now)) }
+{
     let mut out = [0u8; ROOM];
     let n = put(command, &mut out, input);
-    io::write_all(1, &out[..n]);
+    writer.write_all(&out[..n])
 }
 
 // Prints what is printed for a stored case.
-pub fn print_case(case: &[u8]) {
+pub fn print_case<W: Write>(writer: &mut W, case: &[u8]) -> io::Result<()>
+    ensures printed { OnOk result (Appends (W.contents writer.old) (W.contents writer.new) (case_bytes case.now ++ bytes "%%\n")) }
+{
     let mut out = [0u8; ROOM];
     let n = put_case(&mut out, case);
-    io::write_all(1, &out[..n]);
+    writer.write_all(&out[..n])
+}
+
+// Reads an input as far as it decides, and prints what a command prints for all of it.
+pub fn run<R: Read, W: Write>(reader: &mut R, writer: &mut W, command: Command) -> io::Result<()>
+    ensures printed { OnOk result (IfSome (R.remaining reader.old) (λ input. Appends (W.contents writer.old) (W.contents writer.new) (printed_for command input))) }
+{
+    let mut input = [0u8; read_input::INPUT];
+    let n = read_input::read(reader, command, &mut input)?;
+    print(writer, command, &input[..n])
 }

@@ -2,8 +2,9 @@
 // A case longer than the room for it keeps its first bytes, which decide what is printed for it.
 #![tactic(auto)]
 
-ghost use Rattle.std.specs.Prelude.{◌≡◌, ◌+◌, ◌-◌, ◌≤◌, ◌<◌, length, take, drop};
+ghost use Rattle.std.specs.Prelude.{◌≡◌, ◌+◌, ◌-◌, ◌≤◌, ◌<◌, ◌↔◌, IfOk, OnErr, IsTrue, length, take, drop};
 ghost use Rattle.std.proofs.Math.Seq.{paste};
+ghost use Rattle.std.specs.Io.KnownBytes.{Consumes, IsAtEnd, Keeps};
 ghost use Rattle.read_first.specs.Cut.{input_room};
 ghost use Rattle.command.specs.Opened.{line_room};
 ghost use Rattle.read_marks.specs.Cut.{cut_of, fitting_bytes};
@@ -11,6 +12,8 @@ ghost use Rattle.read_cases.specs.Held.{CountsWithin, held_after, held_of, held_
 ghost use Rattle.read_cases.specs.Kept.{end_mark};
 
 use read_marks::{cut, keep};
+use std::io;
+use std::io::Read;
 
 // The bytes of a line `%%`.
 const MARK: usize = 3;
@@ -43,7 +46,8 @@ pub fn unmarked(text: &[u8], len: usize) -> &[u8]
 
 // Before anything was read.
 pub fn start() -> State
-    ensures { (result.len ≡ 0) × (result.matched ≡ 1) × (result.from ≡ 0) × (result.till ≡ 0) }
+    ensures none { (result.len ≡ 0) × (result.matched ≡ 1) × (result.from ≡ 0) × (result.till ≡ 0) }
+    ensures more { IsTrue result.more }
 {
     State {
         len: 0,
@@ -69,6 +73,7 @@ pub fn taken(piece: &[u8], text: &mut [u8], state: State) -> State
     ensures kept { text.new ≡ paste text.old state.len (taken_part state.from result.from piece.now) (fitting_bytes text.old state.len (taken_part state.from result.from piece.now)) }
     ensures held_case { held_after (held_case text.new (len_after result.matched result.len) result.matched) (drop result.from piece.now) ≡ held_after (held_of text.old state) (drop state.from piece.now) }
     ensures within { CountsWithin state.till (length text.new) result × (length text.new ≡ length text.old) }
+    ensures rest { (result.till ≡ state.till) × IsTrue result.more }
 {
     let from = state.from;
     let place = cut(piece, from, state.matched);
@@ -85,7 +90,8 @@ pub fn taken(piece: &[u8], text: &mut [u8], state: State) -> State
 
 // A case that has ended is held no longer.
 pub fn rested(state: State) -> State
-    ensures { (result.len ≡ len_after state.matched state.len) × (result.matched ≡ state.matched) × (result.from ≡ state.from) × (result.till ≡ state.till) × (result.len ≤ state.len) }
+    ensures rested { (result.len ≡ len_after state.matched state.len) × (result.matched ≡ state.matched) × (result.from ≡ state.from) × (result.till ≡ state.till) × (result.len ≤ state.len) }
+    ensures more { result.more ≡ state.more }
 {
     if state.matched == 4 {
         return State {
@@ -99,17 +105,20 @@ pub fn rested(state: State) -> State
     state
 }
 
-// Reads the next piece.
-pub fn refilled(buffer: &mut [u8], state: State) -> State
-    ensures { (result.len ≡ state.len) × (result.matched ≡ state.matched) × (result.from ≡ 0) × (result.till ≤ length buffer.new) }
+// Reads the next piece. No bytes come only at the end, where there is room for one.
+pub fn refilled<R: Read>(reader: &mut R, buffer: &mut [u8], state: State) -> io::Result<State>
+    ensures state { IfOk result (λ next. (next.len ≡ state.len) × (next.matched ≡ state.matched) × (next.from ≡ 0) × (next.till ≤ length buffer.new)) }
+    ensures more { IfOk result (λ next. IsTrue next.more ↔ 0 < next.till) }
+    ensures came { IfOk result (λ next. Consumes (R.remaining reader.old) (R.remaining reader.new) (take next.till buffer.new)) }
+    ensures none_came { IfOk result (λ next. next.till ≡ 0 → 0 < length buffer.old → IsAtEnd (R.remaining reader.new)) }
+    ensures failed { OnErr result (Keeps (R.remaining reader.old) (R.remaining reader.new)) }
 {
-    let got = libc::read(0, buffer);
-    let n = io::count(got, buffer);
-    State {
+    let n = reader.read(buffer)?;
+    Ok(State {
         len: state.len,
         matched: state.matched,
         from: 0,
         till: n,
         more: 0 < n,
-    }
+    })
 }

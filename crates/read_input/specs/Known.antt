@@ -2,8 +2,9 @@
 --     known_by, known_decides      an input with a first line
 --     text_known, text_decides     a text alone
 --     known_for                    by the command
+--     known_room                   where nothing is known yet there is room for more
 use Rattle.std.specs.Prelude.{◌≡◌, refl, Bool, true, false, cond, List, ◌++◌, ℕ, ◌≤◌, ◌<◌, leb, ltb, length}
-use Rattle.std.proofs.Common.{sym, ◌∙◌, true≢false, le-ltb, le-leb, leb-true, lt-ltb, ltb-false}
+use Rattle.std.proofs.Common.{sym, ◌∙◌, arith, true≢false, le-ltb, le-leb, leb-true, leb-false, lt-ltb, ltb-false}
 use Rattle.std.proofs.Math.Path.{ap}
 use Rattle.std.proofs.Math.Option.{Option, none, some}
 use Rattle.std.proofs.Math.Seq.{take-append_seam}
@@ -96,3 +97,29 @@ module _ (input : List ℕ) where
 
       pub known_good : {n k : ℕ} → r ≡ At n k → false ≡ known_by input
       known_good = by_line
+
+-- ---- what is not known yet has room for more
+
+input_short : (input : List ℕ) → false ≡ known_by input → length input < input_room
+input_short input e = go (leb input_room (length input)) refl
+  where
+    go : (b : Bool) → leb input_room (length input) ≡ b → length input < input_room
+    go true t =
+        let enough = leb-true input_room (length input) t in
+        absurd (true≢false (known_enough input (omega arith) enough ∙ sym e))
+    go false t = leb-false input_room (length input) t
+
+text_few : (text : List ℕ) → false ≡ text_known text → length text < input_room
+text_few text e = go (leb text_room (length text)) refl
+  where
+    go : (b : Bool) → leb text_room (length text) ≡ b → length text < input_room
+    go true t = absurd (true≢false (text_enough text (leb-true text_room (length text) t) ∙ sym e))
+    go false t = omega (arith, leb-false text_room (length text) t)
+
+pub known_room : (command : Command) (input : List ℕ) → false ≡ known_for command input → length input < input_room
+unfolding known_for
+known_room Lift input e = input_short input e
+known_room Read input e = text_few input e
+known_room Blocks input e = text_few input e
+known_room Help input e = absurd (true≢false (sym e))
+known_room Unknown input e = absurd (true≢false (sym e))

@@ -1,2 +1,3 @@
--- When it is known what is printed for an input.
+-- When it is known what is printed for an input, and counts of its bytes.
+pub mod Counts
 pub mod Known

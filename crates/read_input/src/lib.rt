@@ -1,15 +1,18 @@
-// How much of its input a program reads: as much as decides what it prints. What a read gives no contract can say, so the decision is a function
-// of the bytes that were read, and the room for them is asked of the caller.
+// How much of its input a program reads: as much as decides what it prints. The decision is a function of the bytes that were read, and the room for
+// them is asked of the caller.
 #![tactic(auto)]
 
-ghost use Rattle.std.specs.Prelude.{◌≡◌, ◌+◌, ◌≤◌, length};
-ghost use Rattle.io.specs.Counts.{IsPrefixLen};
+ghost use Rattle.std.specs.Prelude.{◌≡◌, ◌⊎◌, ℕ, ◌+◌, ◌≤◌, ◌<◌, IfOk, OnErr, IsTrue, length, take, drop};
+ghost use Rattle.std.specs.Io.KnownBytes.{Consumes, IsAtEnd, Keeps};
 ghost use Rattle.read_first.specs.Cut.{input_room};
+ghost use Rattle.read_input.specs.Counts.{IsPrefixLen};
 ghost use Rattle.read_input.specs.Known.{known_by, known_for, text_known};
 
 use command::Command;
 use read_first::{First, first_line};
 use refusals::limits::MAX_BYTES;
+use std::io;
+use std::io::Read;
 
 // The bytes of the longest line `(first N)`.
 const LINE: usize = 19;
@@ -58,27 +61,33 @@ pub fn known(command: Command, input: &[u8]) -> bool
     }
 }
 
-// Reads once, behind the first `n` bytes: how many bytes came.
-fn more(input: &mut [u8], n: usize) -> usize
+// Reads once, behind the first `n` bytes: how many bytes came. None come only at the end, where there is room for one.
+fn more<R: Read>(reader: &mut R, input: &mut [u8], n: usize) -> io::Result<usize>
     requires { n ≤ length input.old }
-    ensures { n + result ≤ length input.new }
+    ensures within { IfOk result (λ got. n + got ≤ length input.new) }
+    ensures kept { take n input.new ≡ take n input.old }
+    ensures came { IfOk result (λ got. Consumes (R.remaining reader.old) (R.remaining reader.new) (take got (drop n input.new))) }
+    ensures none_came { IfOk result (λ got. got ≡ 0 → n < length input.old → IsAtEnd (R.remaining reader.new)) }
+    ensures failed { OnErr result (Keeps (R.remaining reader.old) (R.remaining reader.new)) }
 {
-    let got = libc::read(0, &mut input[n..]);
-    io::count(got, &input[n..])
+    reader.read(&mut input[n..])
 }
 
-// Reads until it is known what a command prints, or the input ends: how many bytes of it stand there.
-pub fn read(command: Command, input: &mut [u8]) -> usize
+// Reads until it is known what a command prints, or the input ends: how many bytes of it stand there. After an error too, no byte is lost that was read.
+pub fn read<R: Read>(reader: &mut R, command: Command, input: &mut [u8]) -> io::Result<usize>
     requires { input_room ≤ length input.old }
-    ensures { IsPrefixLen result input.new }
+    ensures count { IfOk result (λ n. IsPrefixLen n input.new) }
+    ensures bytes { IfOk result (λ n. Consumes (R.remaining reader.old) (R.remaining reader.new) (take n input.new)) }
+    ensures decided { IfOk result (λ n. IsTrue (known_for command (take n input.new)) ⊎ IsAtEnd (R.remaining reader.new)) }
+    ensures none_lost { (n : ℕ) × (n ≤ length input.new) × Consumes (R.remaining reader.old) (R.remaining reader.new) (take n input.new) }
 {
     let mut n: usize = 0;
     while !known(command, &input[..n]) {
-        let got = more(input, n);
+        let got = more(reader, input, n)?;
         if got == 0 {
-            return n;
+            return Ok(n);
         }
         n += got;
     }
-    n
+    Ok(n)
 }

@@ -2,13 +2,8 @@
 --     percent_0       a `%` that doesn't count
 --     matched_4       the line's end of a line `%%`
 --     cut-..          one byte more is cut off
-use mathlib.Core.Path.{◌≡◌, sym, ap, ◌∙◌}
-use mathlib.Core.List.{List}
-use Prim.Native.Nat.{ℕ, suc, ◌+◌, ◌<◌}
-use lib.ListN.{length, drop, get_or}
-use lib.Seq.{drop-cons, drop-length}
-use native.Mathlib.Numerals.{add-one}
-use borrow.Author.Tests.{eq-eqb, ne_eqb}
+use Rattle.std.proofs.Common.{◌≡◌, sym, ap, ◌∙◌, List, ℕ, suc, ◌+◌, ◌<◌, length, drop, get_or, drop-cons, add-one, eq-eqb, ne_eqb}
+use Rattle.std.proofs.Math.Seq.{drop-length}
 use Rattle.read_marks.specs.Cut.{percent_after, matched_after, cut_of, cut_more}
 
 module _ (m : ℕ) where

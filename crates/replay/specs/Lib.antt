@@ -1,2 +1,2 @@
--- Why it is enough to keep the first bytes of a case.
+-- Why it is enough to keep the first bytes of a case, and what is printed for a batch.
 pub mod Kept

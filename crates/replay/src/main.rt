@@ -1,50 +1,84 @@
 // Runs stored cases: reads a batch on standard input, case by case, and prints what the command that a case names prints for its input.
 #![tactic(auto)]
 
-ghost use Rattle.std.specs.Prelude.{◌≡◌, length};
+ghost use Rattle.std.specs.Prelude.{◌≡◌, ◌+◌, ◌-◌, ◌^◌, ◌≤◌, ◌<◌, IfOk, IfSome, OnOk, length, take};
+ghost use Rattle.std.specs.Io.KnownBytes.{Appends};
+ghost use Rattle.command.specs.Opened.{line_room};
+ghost use Rattle.read_first.specs.Cut.{input_room};
 ghost use Rattle.read_cases.specs.Held.{CountsWithin};
+ghost use Rattle.read_cases.specs.Kept.{end_mark};
+ghost use Rattle.replay.specs.Batch.{Rests, TurnsWell, batch_bytes, printed_if};
 
 use print_command::print_case;
 use read_cases::{State, refilled, rested, taken, unmarked};
+use std::io;
+use std::io::{Read, Write};
+
+// The bytes of a piece at most.
+const PIECE: usize = 65536;
 
 // A case that has ended is run.
-fn run(text: &[u8], state: State) -> State
+fn run<W: Write>(writer: &mut W, text: &[u8], state: State) -> io::Result<State>
     requires { CountsWithin 65536 (length text.now) state }
-    ensures { CountsWithin 65536 (length text.now) result }
+    ensures counts { IfOk result (CountsWithin 65536 (length text.now)) }
+    ensures rested { IfOk result (Rests state) }
+    ensures printed { OnOk result (Appends (W.contents writer.old) (W.contents writer.new) (printed_if state.matched (take (state.len - 3) text.now))) }
 {
     if state.matched == 4 {
-        print_case(unmarked(text, state.len));
+        print_case(writer, unmarked(text, state.len))?;
     }
-    rested(state)
+    Ok(rested(state))
 }
 
 // Takes what follows of the last piece, up to the end of a case, or reads the next one.
-fn step(buffer: &mut [u8], text: &mut [u8], state: State) -> State
+fn step<R: Read, W: Write>(
+    reader: &mut R,
+    writer: &mut W,
+    buffer: &mut [u8],
+    text: &mut [u8],
+    state: State,
+) -> io::Result<State>
     requires { CountsWithin 65536 (length text.old) state × (length buffer.old ≡ 65536) }
-    ensures { CountsWithin 65536 (length text.new) result × (length text.new ≡ length text.old) × (length buffer.new ≡ 65536) }
+    ensures state { IfOk result (CountsWithin 65536 (length text.new)) }
+    ensures rooms { (length text.new ≡ length text.old) × (length buffer.new ≡ 65536) }
+    ensures turn { IfOk result (λ next. TurnsWell (W.contents writer.old) (W.contents writer.new) (R.remaining reader.old) (R.remaining reader.new) buffer.old text.old state buffer.new text.new next) }
 {
     let till = state.till;
     if state.from < till {
         let next = taken(&buffer[..till], text, state);
-        return run(text, next);
+        return run(writer, text, next);
     }
-    refilled(buffer, state)
+    refilled(reader, buffer, state)
 }
 
 // A proved loop has to end, so it counts its turns down, from a number that no run uses up.
-fn all(buffer: &mut [u8], text: &mut [u8])
+fn all<R: Read, W: Write>(
+    reader: &mut R,
+    writer: &mut W,
+    buffer: &mut [u8],
+    text: &mut [u8],
+) -> io::Result<()>
     requires { length buffer.old ≡ 65536 }
+    ensures printed { OnOk result (IfSome (R.remaining reader.old) (λ batch. line_room + input_room + length end_mark ≤ length text.old → length batch < 2 ^ 63 → Appends (W.contents writer.old) (W.contents writer.new) (batch_bytes batch))) }
 {
     let mut turns = u64::MAX;
     let mut state = read_cases::start();
     while turns > 0 && state.more {
-        state = step(buffer, text, state);
+        state = step(reader, writer, buffer, text, state)?;
         turns -= 1;
     }
+    Ok(())
 }
 
-fn main() {
-    let mut buffer = io::large_buffer();
+// Answers a batch: for each of its cases it prints what the case's command prints for its input, and a line `%%`.
+fn answer<R: Read, W: Write>(reader: &mut R, writer: &mut W) -> io::Result<()>
+    ensures printed { OnOk result (IfSome (R.remaining reader.old) (λ batch. length batch < 2 ^ 63 → Appends (W.contents writer.old) (W.contents writer.new) (batch_bytes batch))) }
+{
+    let mut buffer = [0u8; PIECE];
     let mut text = read_cases::room();
-    all(&mut buffer, &mut text);
+    all(reader, writer, &mut buffer, &mut text)
+}
+
+fn main(rt: HostRuntime) -> io::Result<()> {
+    answer(&mut rt.reader(), &mut io::writer(&rt))
 }
