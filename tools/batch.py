@@ -38,6 +38,20 @@ def split(batch):
     return parts
 
 
+def crates():
+    """The crates of crates.txt, in its order, each with the libraries that it uses."""
+    listed = re.findall(r'^(\w+)[\w =+]*:(.*)$', read(os.path.join(ROOT, 'crates.txt')).decode(), re.M)
+    return {crate: uses.split() for crate, uses in listed}
+
+
+def sources(crate):
+    """The paths of what is written of a crate: its code, definitions, laws and proofs, and not what rt makes in out/."""
+    for part in ('src', 'specs', 'proofs'):
+        for folder, folders, names in os.walk(os.path.join(ROOT, 'crates', crate, part)):
+            folders.sort()
+            yield from (os.path.join(folder, name) for name in sorted(names) if name.endswith(('.rt', '.antt')))
+
+
 def joined(parts):
     return b''.join(part + END for part in parts)
 

@@ -63,6 +63,6 @@ def vectors(folder):
 def rows():
     """The rows of Starred.antt: first id, text, and the number that refuses it or 0."""
     source = read(os.path.join(ROOT, 'crates', 'lifting', 'specs', 'Starred.antt')).decode()
-    found = re.findall(r'\brow\s+"([^"]*)"\s+([0-9]+)\s+\((?:refuses ([0-9]+)|gives|blocks|pairsOfPhis)', source)
+    found = re.findall(r'\brow\s+"([^"]*)"\s+([0-9]+)\s+\((?:refuses ([0-9]+)|gives|blocks|pairs_of_phis)', source)
     assert len(found) == len(re.findall(r'\brow\s+"', source)) >= 12
     return [(int(first), text.replace('\\n', '\n'), int(number or 0)) for text, first, number in found]
