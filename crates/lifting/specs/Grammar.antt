@@ -5,15 +5,15 @@
 -- To believe: what each form prints, up to `text`, and `Fits`. Of the two functions that `same` and `view_as` take, the second (`of..`) takes a
 -- value apart to be printed. `read` is held to these by `read_exactly`; the first functions (`to..`) and the laws on the way (`-to-of`,
 -- `-of-to`, `-apart`) are there to prove that.
-use Rattle.std.specs.Prelude.{◌≡◌, refl, ◌⊎◌, ◌↔◌, ℕ}
-use Rattle.std.proofs.Common.{sym, subst, inl, inr}
-use mathlib.Core.List.{List, [], ◌∷◌, ◌++◌, append_assoc, cons≢nil}
-use Rattle.std.proofs.Math.Option.{Option, none, some}
+use Rattle.std.specs.Prelude.{◌≡◌, refl, ◌⊎◌, ℕ}
+use Rattle.std.proofs.Common.{inl, inr}
+use mathlib.Core.List.{List, [], ◌∷◌, ◌++◌, append_assoc}
+use Rattle.std.proofs.Math.Option.{Option, none}
 use Prim.Native.String.{String}
 use Rattle.lifting.specs.Bytes.{bytes}
 use Rattle.lifting.specs.Digits.{number, number_from, digits, digits_to}
 use Rattle.lifting.specs.Codec.{Codec, Whole, Led, Every, strip, lit, num, seq, view_as, same, alt, many, read_many, list}
-use Rattle.lifting.specs.Whole.{end, skip, read_whole, whole_sound, whole_full}
+use Rattle.lifting.specs.Whole.{end, skip, read_whole}
 use Rattle.lifting.specs.Ast.{Value, const, region_input, node_output, data_inst_output, Imm, Inst, DataInstKind, inst, call, ext, Op, SelectionKind, bool_cond, spv_inst, Decl}
 use Rattle.lifting.specs.Ast.{Node, block, select, loop, exit, Region, ControlInstKind, unreachable, return, branch, select_branch, exit_invocation, ControlInst, Const, Func}
 
@@ -77,13 +77,13 @@ decls_codec = list decl (bytes ")") refl (λ r. refl)
 abbrev pub ValueForm : Type 0
 ValueForm = ((ℕ ⊎ (ℕ × ℕ)) ⊎ (ℕ × ℕ)) ⊎ ℕ
 
-abbrev to_value : ValueForm → Value
+abbrev pub to_value : ValueForm → Value
 to_value (inl (inl (inl n))) = const n
 to_value (inl (inl (inr x))) = region_input x.0 x.1
 to_value (inl (inr x)) = node_output x.0 x.1
 to_value (inr i) = data_inst_output i
 
-abbrev of_value : Value → ValueForm
+abbrev pub of_value : Value → ValueForm
 of_value (const n) = inl (inl (inl n))
 of_value (region_input r i) = inl (inl (inr (r, i)))
 of_value (node_output n i) = inl (inr (n, i))
@@ -132,12 +132,12 @@ inst_form =
 abbrev pub OpKindForm : Type 0
 OpKindForm = (Inst ⊎ ℕ) ⊎ (ℕ × ℕ)
 
-abbrev to_op_kind : OpKindForm → DataInstKind
+abbrev pub to_op_kind : OpKindForm → DataInstKind
 to_op_kind (inl (inl i)) = inst i
 to_op_kind (inl (inr n)) = call n
 to_op_kind (inr x) = ext x.0 x.1
 
-abbrev of_op_kind : DataInstKind → OpKindForm
+abbrev pub of_op_kind : DataInstKind → OpKindForm
 of_op_kind (inst i) = inl (inl i)
 of_op_kind (call n) = inl (inr n)
 of_op_kind (ext n m) = inr (n, m)
@@ -163,11 +163,11 @@ op_kind_codec = same op_kind_form to_op_kind of_op_kind op_kind_to_of op_kind_of
 abbrev pub SelKindForm : Type 0
 SelKindForm = Unit {0} ⊎ Inst
 
-abbrev to_sel_kind : SelKindForm → SelectionKind
+abbrev pub to_sel_kind : SelKindForm → SelectionKind
 to_sel_kind (inl _) = bool_cond
 to_sel_kind (inr i) = spv_inst i
 
-abbrev of_sel_kind : SelectionKind → SelKindForm
+abbrev pub of_sel_kind : SelectionKind → SelKindForm
 of_sel_kind bool_cond = inl tt
 of_sel_kind (spv_inst i) = inr i
 
@@ -190,14 +190,14 @@ sel_kind = same sel_kind_form to_sel_kind of_sel_kind sel_kind_to_of sel_kind_of
 abbrev pub PlainForm : Type 0
 PlainForm = ((Unit {0} ⊎ Unit {0}) ⊎ Unit {0}) ⊎ Inst
 
-abbrev to_kind : PlainForm ⊎ SelectionKind → ControlInstKind
+abbrev pub to_kind : PlainForm ⊎ SelectionKind → ControlInstKind
 to_kind (inl (inl (inl (inl _)))) = unreachable
 to_kind (inl (inl (inl (inr _)))) = return
 to_kind (inl (inl (inr _))) = branch
 to_kind (inl (inr i)) = exit_invocation i
 to_kind (inr k) = select_branch k
 
-abbrev of_kind : ControlInstKind → PlainForm ⊎ SelectionKind
+abbrev pub of_kind : ControlInstKind → PlainForm ⊎ SelectionKind
 of_kind unreachable = inl (inl (inl (inl tt)))
 of_kind return = inl (inl (inl (inr tt)))
 of_kind branch = inl (inl (inr tt))
@@ -278,13 +278,13 @@ exit_line = line "exit" (seq inst_form values_codec)
 abbrev pub NodeForm : Type 0
 NodeForm = ((List ℕ ⊎ (SelectionKind × ((Value × (List ℕ × List Decl)) × ℕ))) ⊎ (ℕ × ((Value × List Value) × ℕ))) ⊎ (Inst × List Value)
 
-abbrev to_node : NodeForm → Node
+abbrev pub to_node : NodeForm → Node
 to_node (inl (inl (inl x))) = block x
 to_node (inl (inl (inr x))) = select x.0 x.1.0.0 x.1.0.1.0 x.1.0.1.1 x.1.1
 to_node (inl (inr x)) = loop x.0 x.1.0.0 x.1.0.1 x.1.1
 to_node (inr x) = exit x.0 x.1
 
-abbrev of_node : Node → NodeForm
+abbrev pub of_node : Node → NodeForm
 of_node (block x) = inl (inl (inl x))
 of_node (select k v r o u) = inl (inl (inr (k, ((v, (r, o)), u))))
 of_node (loop r v i u) = inl (inr (r, ((v, i), u)))
@@ -379,11 +379,11 @@ unfolding region_line line before lit seq same view_as strip end
 rest_form = alt (seq (lit (bytes "(imported)\n") refl) end) (seq region_line region_lines) (λ b r. refl)
 
 -- a function without regions is the imported one
-abbrev to_rest : RestForm → Regions
+abbrev pub to_rest : RestForm → Regions
 to_rest (inl _) = ([], ([], ([], ([], tt))))
 to_rest (inr x) = (x.0 ∷ x.1.0, x.1.1)
 
-abbrev of_rest : List Region → Nodes → RestForm
+abbrev pub of_rest : List Region → Nodes → RestForm
 of_rest [] x = inl (tt, tt)
 of_rest (r ∷ rs) x = inr (r, (rs, x))
 
@@ -394,19 +394,8 @@ Alone regions nodes ops ctrls = regions ≡ [] → (nodes ≡ []) × (ops ≡ []
 abbrev pub OkRest : Regions → Type 0
 OkRest x = region_lines.Ok x × Alone x.0 x.1.0 x.1.1.0 x.1.1.1.0
 
-pub rest_to_of : (rs : List Region) (x : Nodes) → OkRest (rs, x) → rest_form.Ok (of_rest rs x) × (to_rest (of_rest rs x) ≡ (rs, x))
-unfolding rest_form alt seq lit end region_lines many
-rest_to_of [] x ok = let a = ok.1 refl in ((tt, tt), λ i. ([], (sym a.0 i, (sym a.1 i, (sym a.2 i, tt)))))
-rest_to_of (r ∷ rs) x ok = ((ok.0.0.0, (ok.0.0.1, ok.0.1)), refl)
-
-pub rest_of_to : (x : RestForm) → rest_form.Ok x → OkRest (to_rest x) × (of_rest (to_rest x).0 (to_rest x).1 ≡ x)
-unfolding rest_form alt seq lit end region_lines node_lines op_lines ctrl_lines many
-rest_of_to (inl _) ok = (((tt, (tt, (tt, (tt, tt)))), λ e. (refl, refl, refl)), refl)
-rest_of_to (inr x) ok =
-    ((((ok.0, ok.1.0), ok.1.1), λ e. absurd (cons≢nil e)), refl)
-
 unfoldable pub rest_lines : Whole Regions
-rest_lines = view_as rest_form to_rest (λ x. of_rest x.0 x.1) OkRest (λ x. rest_to_of x.0 x.1) rest_of_to
+rest_lines = view_as rest_form to_rest (λ x. of_rest x.0 x.1) OkRest
 
 -- what refuses `(imported)` and a region refuses the rest of the text
 pub skip_rest : {A : Type 0} (R : Codec A) → ((r : List ℕ) → R.read (bytes "(imported)\n" ++ r) ≡ none)
@@ -462,28 +451,12 @@ to_func x =
       ctrls = x.1.1.1.1.1.1.0;
     }
 
-abbrev of_func : Func → TextForm
+abbrev pub of_func : Func → TextForm
 of_func f = ((f.attrs, (f.ret, (f.type, f.control))), (f.consts, (f.params, (f.regions, (f.nodes, (f.ops, (f.ctrls, tt)))))))
 
 -- the whole text
 unfoldable pub text : Whole Func
-unfolding const_lines param_lines rest_lines region_lines node_lines op_lines ctrl_lines seq view_as many end
-text =
-    view_as (seq func_line const_lines) to_func of_func Fits
-    (λ f ok. ((ok.func, (ok.consts, (ok.params, ((ok.regions, (ok.nodes, (ok.ops, (ok.ctrls, tt)))), ok.alone)))), refl))
-    (λ x ok. (
-      record {
-        func = ok.0;
-        consts = ok.1.0;
-        params = ok.1.1.0;
-        regions = ok.1.1.1.0.0;
-        nodes = ok.1.1.1.0.1.0;
-        ops = ok.1.1.1.0.1.1.0;
-        ctrls = ok.1.1.1.0.1.1.1.0;
-        alone = ok.1.1.1.1;
-      },
-      refl,
-    ))
+text = view_as (seq func_line const_lines) to_func of_func Fits
 
 -- all of the text's definitions opened, so that `unfolding print` or `unfolding read` alone computes
 unfoldable pub opened : Whole Func
@@ -500,17 +473,3 @@ print f = opened.print f
 unfoldable pub read : List ℕ → Option Func
 unfolding opened read_whole
 read t = read_whole opened t
-
--- what is read is the printed text of a function that fits, and the text of every function that fits is read
-pub print_of_read : (t : List ℕ) (f : Func) → read t ≡ some f → (t ≡ print f) × Fits f
-unfolding print read opened text view_as
-print_of_read t f e = whole_sound text t f e
-
-pub read_of_print : (f : Func) → Fits f → read (print f) ≡ some f
-unfolding print read opened text view_as
-read_of_print f ok = whole_full text f ok
-
--- so a function is read from its printed text and from no other
-pub read_exactly : (t : List ℕ) (f : Func) → (read t ≡ some f) ↔ ((print f ≡ t) × Fits f)
-read_exactly t f =
-    (λ e. let p = print_of_read t f e in (sym p.0, p.1), λ p. subst (λ (l : List ℕ). read l ≡ some f) p.0 (read_of_print f p.1))

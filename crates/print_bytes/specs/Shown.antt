@@ -9,10 +9,13 @@ use Rattle.std.proofs.Math.Option.{some}
 use Rattle.lifting.specs.Bytes.{bytes}
 use Rattle.lifting.specs.Digits.{digits, digits_to}
 use Rattle.lifting.specs.Codec.{Codec, Whole, strip, lit, num, seq, same, view_as, many, list}
-use Rattle.lifting.specs.Whole.{end, read_whole, whole_full}
+use Rattle.lifting.specs.Whole.{end, read_whole}
 use Rattle.lifting.specs.Ast.{Imm}
 use Rattle.lifting.specs.Grammar.{before, after_word, spaced, sub, closed, line, field, open1, one_codec, numbers_codec, imm_codec, imms_codec}
 use Rattle.lifting.specs.Instructions.{Instruction, short, function_control}
+use Rattle.lifting.proofs.Codec.{Inverse, many_inverse, same_inverse, seq_inverse}
+use Rattle.lifting.proofs.Grammar.{after_word_inverse, closed_inverse, field_inverse, imms_codec_inverse, numbers_codec_inverse, open1_inverse, sub_inverse}
+use Rattle.lifting.proofs.Whole.{end_inverse, whole_full}
 
 -- `(OPCODE ATTRS TYPE RESULT (imms (KIND OPERANDKIND WORD)..) (ids ID..))` and byte 10
 abbrev pub InstForm : Type 0
@@ -28,6 +31,20 @@ inst_line =
     (λ x. record { opcode = x.0; attrs = x.1.0; type = x.1.1.0; result = x.1.1.1.0; imms = x.1.1.1.1.0; ids = x.1.1.1.1.1 })
     (λ i. (i.opcode, (i.attrs, (i.type, (i.result, (i.imms, i.ids)))))) (λ i. refl) (λ x. refl)
 
+inst_form_inverse : Inverse instruction_form
+unfolding instruction_form
+inst_form_inverse =
+    after_word_inverse
+    (closed_inverse (seq_inverse open1_inverse (seq_inverse field_inverse (seq_inverse field_inverse (seq_inverse field_inverse (seq_inverse (sub_inverse "imms" imms_codec_inverse) (sub_inverse "ids" numbers_codec_inverse)))))))
+    (bytes "\n") refl
+
+inst_line_inverse : Inverse inst_line
+unfolding inst_line
+inst_line_inverse =
+    same_inverse inst_form_inverse
+    (λ x. record { opcode = x.0; attrs = x.1.0; type = x.1.1.0; result = x.1.1.1.0; imms = x.1.1.1.1.0; ids = x.1.1.1.1.1 })
+    (λ i. (i.opcode, (i.attrs, (i.type, (i.result, (i.imms, i.ids)))))) (λ i. refl) (λ x. refl)
+
 -- its bytes
 unfoldable pub inst_bytes : Instruction → List ℕ
 inst_bytes i = inst_line.print i
@@ -36,6 +53,10 @@ inst_bytes i = inst_line.print i
 unfoldable pub listing : Whole (List Instruction × Unit {0})
 unfolding end inst_line instruction_form closed after_word open1 lit num seq same view_as strip
 listing = many inst_line end (λ u r. refl)
+
+listing_inverse : Inverse listing
+unfolding listing end inst_line instruction_form closed after_word open1 lit num seq same view_as strip
+listing_inverse = many_inverse inst_line_inverse end_inverse (λ u r. refl)
 
 -- the bytes of a list
 unfoldable pub list_bytes : List Instruction → List ℕ
@@ -54,7 +75,7 @@ printed_listing [] = refl
 printed_listing (i ∷ l) = ap (λ (t : List ℕ). inst_bytes i ++ t) (printed_listing l)
 
 pub list_read : (l : List Instruction) → listing.Ok (l, tt) → read_whole listing (list_bytes l) ≡ some (l, tt)
-list_read l ok = rw (printed_listing l) at (whole_full listing (l, tt) ok)
+list_read l ok = rw (printed_listing l) at (whole_full listing_inverse (l, tt) ok)
 
 -- document 01's listing
 abbrev inst_of : ℕ → ℕ → ℕ → ℕ → List Imm → List ℕ → Instruction

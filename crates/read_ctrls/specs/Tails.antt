@@ -7,12 +7,14 @@ use Rattle.std.proofs.Common.{◌∙◌}
 use Rattle.std.proofs.Math.Option.{none, some}
 use Rattle.lifting.specs.Bytes.{bytes}
 use Rattle.lifting.specs.Digits.{Reading}
-use Rattle.lifting.specs.Codec.{Codec, then, then_then, both_of, up, strip, lit, seq, view_as, same}
+use Rattle.lifting.specs.Codec.{Codec, then, then_then, both_of, strip, lit, seq, view_as, same}
 use Rattle.lifting.specs.Whole.{end}
 use Rattle.lifting.specs.Ast.{Value, ControlInstKind, ControlInst}
 use Rattle.lifting.specs.Grammar.{before, spaced, sub, closed, line, field, numbers_codec, values_codec, kind, entry_codec, entries_codec, ctrl_line, ctrl_lines}
+use Rattle.lifting.proofs.Codec.{Inverse, same_inverse, seq_inverse}
+use Rattle.lifting.proofs.Grammar.{before_inverse, ctrl_line_inverse, entry_codec_inverse, field_inverse}
 use Rattle.read_cursor.specs.Begins.{go_on, Begins, begins_before, begins_first, begins_second}
-use Rattle.read_insts.specs.Heads.{control_head, control_rest, control_begins}
+use Rattle.read_insts.specs.Heads.{control_head, control_rest, control_begins, control_head_inverse}
 use Rattle.read_insts.specs.declared.Control.{Control}
 use Rattle.read_lines.specs.Stores.{Listing}
 use Rattle.read_lines.specs.Elements.{list_listing}
@@ -22,7 +24,7 @@ use Rattle.read_ctrls.specs.declared.CtrlHead.{CtrlHead}
 
 pub entries_listing : Listing entry_codec (bytes ")") entries_codec
 unfolding entries_codec entry_codec spaced before lit seq same view_as strip
-entries_listing = list_listing entry_codec (bytes ")") refl (λ r. refl)
+entries_listing = list_listing entry_codec_inverse (bytes ")") refl (λ r. refl)
 
 -- `(ctrl R A K`, with K as far as its head goes
 unfoldable pub ctrl_head_form : Codec (ℕ × (ℕ × Control))
@@ -30,6 +32,12 @@ ctrl_head_form = before (bytes "(ctrl") refl (seq field (seq field control_head)
 
 unfoldable pub ctrl_head : Codec CtrlHead
 ctrl_head = same ctrl_head_form (λ x. record { region = x.0; attrs = x.1.0; kind = x.1.1 }) (λ h. (h.region, (h.attrs, h.kind))) (λ h. refl) (λ x. refl)
+
+ctrl_head_inverse : Inverse ctrl_head
+unfolding ctrl_head ctrl_head_form
+ctrl_head_inverse =
+    same_inverse (before_inverse (bytes "(ctrl") refl (seq_inverse field_inverse (seq_inverse field_inverse control_head_inverse)))
+    (λ x. record { region = x.0; attrs = x.1.0; kind = x.1.1 }) (λ h. (h.region, (h.attrs, h.kind))) (λ h. refl) (λ x. refl)
 
 -- ` (ins V..) (to R..)`
 unfoldable pub ctrl_lists : Codec (List Value × List ℕ)
@@ -92,4 +100,4 @@ ctrl_begins = record { is = λ t. go t (ctrl_head_form.read t) refl }
 
 pub ctrl_line_kind : Kind ctrl_lines end ctrl_head.read ctrl_tail
 unfolding ctrl_lines ctrl_head ctrl_head_form before lit seq same view_as strip end
-ctrl_line_kind = kind_of_law ctrl_line end (λ b r. refl) ctrl_head ctrl_begins (λ h r. refl)
+ctrl_line_kind = kind_of_law ctrl_line_inverse end (λ b r. refl) ctrl_head_inverse ctrl_begins (λ h r. refl)

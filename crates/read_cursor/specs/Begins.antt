@@ -8,6 +8,7 @@ use Rattle.std.proofs.Math.Option.{none, some}
 use Rattle.lifting.specs.Digits.{Reading}
 use Rattle.lifting.specs.Codec.{Codec, Led, then, then_then, strip, lit, both_of, second, seq, view_as, same, left, right, read_alt, alt}
 use Rattle.lifting.specs.Grammar.{before, after_word}
+use Rattle.lifting.proofs.Codec.{Inverse}
 
 -- what the head found, and then the rest
 abbrev pub go_on : {A X : Type 0} → Reading X → (X → List ℕ → Reading A) → Reading A
@@ -52,16 +53,16 @@ begins_second {A} C {D} {G} {l} d = record { is = λ t. go (C.read t) }
     go none = refl
     go (some a) = rw (d.is a.1) (simp then_then)
 
--- one or the other: the second does not read what the first's head prints
+-- one or the other: the second does not read what the first's head prints, so none of what that head reads
 abbrev pub one_rest : {A B X Y : Type 0} → (X → List ℕ → Reading A) → (Y → List ℕ → Reading B) → X ⊎ Y → List ℕ → Reading (A ⊎ B)
 one_rest k l (inl x) u = then (k x u) left
 one_rest k l (inr y) u = then (l y u) right
 
 pub begins_alt : {A B X Y : Type 0} {C : Codec A} {D : Codec B} {H : Codec X} {G : Codec Y} {k : X → List ℕ → Reading A} {l : Y → List ℕ → Reading B}
-    (apart : (b : B) (r : List ℕ) → C.read (D.print b ++ r) ≡ none) (heads_apart : (y : Y) (r : List ℕ) → H.read (G.print y ++ r) ≡ none) → Begins C H k → Begins D G l
+    (apart : (b : B) (r : List ℕ) → C.read (D.print b ++ r) ≡ none) (heads_apart : (y : Y) (r : List ℕ) → H.read (G.print y ++ r) ≡ none) → Inverse H → Begins C H k → Begins D G l
     → ((x : X) (r : List ℕ) → D.read (H.print x ++ r) ≡ none) → Begins (alt C D apart) (alt H G heads_apart) (one_rest k l)
 unfolding alt
-begins_alt {A} {B} {X} {Y} {C} {D} {H} {G} {k} {l} apart heads_apart b d other = record { is = λ t. go t (H.read t) refl }
+begins_alt {A} {B} {X} {Y} {C} {D} {H} {G} {k} {l} apart heads_apart h b d other = record { is = λ t. go t (H.read t) refl }
   where
     found : (t : List ℕ) (o : Reading A) → D.read t ≡ none → read_alt C D t o ≡ then o left
     found t none e = rw e
@@ -69,4 +70,4 @@ begins_alt {A} {B} {X} {Y} {C} {D} {H} {G} {k} {l} apart heads_apart b d other =
 
     go : (t : List ℕ) (o : Reading X) → H.read t ≡ o → read_alt C D t (C.read t) ≡ go_on (read_alt H G t o) (one_rest k l)
     go t none e = rw (b.is t, e, d.is t) (simp then_then)
-    go t (some x) e = rw (b.is t, e) (found t (k x.0 x.1) (rw (H.sound t x e).0 (other x.0 x.1)))
+    go t (some x) e = rw (b.is t, e) (found t (k x.0 x.1) (rw (h.sound t x e).0 (other x.0 x.1)))

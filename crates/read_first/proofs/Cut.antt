@@ -13,6 +13,8 @@ use Rattle.lifting.specs.Codec.{Codec, Led, led_stop, strip, strip_full, lit, nu
 use Rattle.lifting.specs.Grammar.{read, before, after_word, closed, line, field, one_codec}
 use Rattle.lifting.specs.Limits.{max_bytes, func_words, work_words}
 use Rattle.lifting.specs.Answer.{Parsed, answer, denied, formed, lifted, parse}
+use Rattle.lifting.proofs.Codec.{Inverse}
+use Rattle.lifting.proofs.Grammar.{line_inverse, one_codec_inverse}
 use Rattle.print_bytes.specs.Lines.{digits_length}
 use Rattle.read_first.specs.Opening.{first_line_form}
 use Rattle.read_first.specs.Cut.{text_room, longest_line, input_room, ByText}
@@ -59,20 +61,24 @@ line_length : (n : ℕ) → length (first_line_form.print n) ≤ longest_line
 unfolding first_line_form line one_codec field closed before after_word lit num seq same view_as
 line_length n = simp length-append (omega (arith, digits_length n))
 
+first_line_inverse : Inverse first_line_form
+unfolding first_line_form
+first_line_inverse = line_inverse "first" one_codec_inverse
+
 -- behind a literal anything may follow
-after_full : {A : Type 0} (C : Codec A) (s : List ℕ) (h : Led s) (a : A) → C.Ok a → (r : List ℕ) → (after_word C s h).read (C.print a ++ (s ++ r)) ≡ some (a, r)
+after_full : {A : Type 0} {C : Codec A} → Inverse C → (s : List ℕ) (h : Led s) (a : A) → C.Ok a → (r : List ℕ) → (after_word C s h).read (C.print a ++ (s ++ r)) ≡ some (a, r)
 unfolding after_word seq same view_as lit
-after_full C s h a ok r = rw (C.full a ok (s ++ r) (led_stop s r h)) (rw (strip_full s r))
+after_full c s h a ok r = rw (c.full a ok (s ++ r) (led_stop s r h)) (rw (strip_full s r))
 
 -- a first line is read whatever follows it
 line_full : (n : ℕ) → first_line_form.Ok n → (r : List ℕ) → first_line_form.read (first_line_form.print n ++ r) ≡ some (n, r)
 unfolding first_line_form line before after_word seq same view_as lit strip
-line_full n ok r = rw append_assoc (rw (after_full one_codec (bytes "\n") refl n ok.1.0 r))
+line_full n ok r = rw append_assoc (rw (after_full one_codec_inverse (bytes "\n") refl n ok.1.0 r))
 
 -- what a first line and the rest of the input give, whatever more follows
 line_more : (a b : List ℕ) {n : ℕ} {r : List ℕ} → first_line_form.read a ≡ some (n, r) → first_line_form.read (a ++ b) ≡ some (n, r ++ b)
 line_more a b {n} {r} e =
-    let s = first_line_form.sound a (n, r) e in
+    let s = first_line_inverse.sound a (n, r) e in
     ap (λ (l : List ℕ). first_line_form.read (l ++ b)) s.0
     ∙ ap first_line_form.read (append_assoc (first_line_form.print n) r b)
     ∙ line_full n s.1 (r ++ b)
@@ -80,7 +86,7 @@ line_more a b {n} {r} e =
 -- a good line lies in the first nineteen bytes
 line_early : (a b : List ℕ) → longest_line ≤ length a → {n : ℕ} {r : List ℕ} → first_line_form.read (a ++ b) ≡ some (n, r) → (k : ℕ) × (first_line_form.read a ≡ some (n, take k r)) × (length a ≤ longest_line + k)
 line_early a b h {n} {r} e =
-    let s = first_line_form.sound (a ++ b) (n, r) e in
+    let s = first_line_inverse.sound (a ++ b) (n, r) e in
     let p = first_line_form.print n in
     let k = length a - length p in
     let l = line_length n in

@@ -12,6 +12,8 @@ use Rattle.lifting.specs.Codec.{Codec, then, then_then, strip, lit, both_of, seq
 use Rattle.lifting.specs.Ast
 use Rattle.lifting.specs.Ast.{Inst, DataInstKind, inst, call, ext, SelectionKind, bool_cond, spv_inst, ControlInstKind, unreachable, return, branch, select_branch, exit_invocation}
 use Rattle.lifting.specs.Grammar.{before, after_word, keyword, sub, closed, line, field, one_codec, two, values_codec, imms_codec, inst_form, op_kind_codec, op_kind_form, sel_kind, sel_kind_form, kind, plain_form, plain_apart, op_line}
+use Rattle.lifting.proofs.Codec.{Inverse, alt_inverse, same_inverse, seq_inverse}
+use Rattle.lifting.proofs.Grammar.{before_inverse, field_inverse, keyword_inverse, one_codec_inverse, sub_inverse, two_inverse}
 use Rattle.read_cursor.specs.Begins.{go_on, Begins, nothing, begins_self, begins_before, begins_after, begins_first, begins_second, one_rest, begins_alt}
 use Rattle.func.specs.declared.OpKind.{OpKind}
 use Rattle.func.specs.declared.OpKind.TheVariants as op
@@ -24,6 +26,10 @@ use Rattle.read_insts.specs.declared.Control.TheVariants as ctrl
 -- ` (inst OP`, and then the immediates with the closing bracket
 unfoldable pub inst_head : Codec ℕ
 inst_head = sub "inst" field
+
+inst_head_inverse : Inverse inst_head
+unfolding inst_head
+inst_head_inverse = sub_inverse "inst" field_inverse
 
 abbrev pub inst_rest : ℕ → List ℕ → Reading Inst
 inst_rest n u = then (imms_codec.read u) (λ x. some (record { opcode = n; imms = x.0 }, x.1))
@@ -60,6 +66,12 @@ op_kind_head_form = alt (alt inst_head (sub "call" one_codec) (λ b r. refl)) (s
 unfoldable pub op_kind_head : Codec OpKind
 op_kind_head = same op_kind_head_form to_op_kind of_op_kind op_kind_to_of op_kind_of_to
 
+op_kind_head_inverse : Inverse op_kind_head
+unfolding op_kind_head op_kind_head_form inst_head sub before lit seq same view_as alt strip
+op_kind_head_inverse =
+    same_inverse (alt_inverse (alt_inverse inst_head_inverse (sub_inverse "call" one_codec_inverse) (λ b r. refl)) (sub_inverse "ext" two_inverse) (λ b r. refl))
+    to_op_kind of_op_kind op_kind_to_of op_kind_of_to
+
 abbrev pub op_kind_rest : OpKind → List ℕ → Reading DataInstKind
 op_kind_rest (op.Inst n) u = then (inst_rest n u) (λ x. some (inst x.0, x.1))
 op_kind_rest (op.Call n) u = some (call n, u)
@@ -68,7 +80,8 @@ op_kind_rest (op.Ext m n) u = some (ext m n, u)
 op_kind_form_begins : Begins op_kind_form op_kind_head_form (one_rest (one_rest inst_rest nothing) nothing)
 unfolding op_kind_form op_kind_head_form inst_head sub before lit seq same view_as alt strip
 op_kind_form_begins =
-    begins_alt (λ b r. refl) (λ b r. refl) (begins_alt (λ b r. refl) (λ b r. refl) inst_begins (begins_self (sub "call" one_codec)) (λ x r. refl))
+    begins_alt (λ b r. refl) (λ b r. refl) (alt_inverse inst_head_inverse (sub_inverse "call" one_codec_inverse) (λ b r. refl))
+    (begins_alt (λ b r. refl) (λ b r. refl) inst_head_inverse inst_begins (begins_self (sub "call" one_codec)) (λ x r. refl))
     (begins_self (sub "ext" two)) other
   where
     other : (x : ℕ ⊎ ℕ) (r : List ℕ) → (sub "ext" two).read ((alt inst_head (sub "call" one_codec) (λ b r. refl)).print x ++ r) ≡ none
@@ -94,6 +107,12 @@ to_op x = record { attrs = x.0; ty = x.1.0; kind = x.1.1 }
 
 unfoldable pub op_head : Codec Op
 op_head = same op_head_form to_op (λ o. (o.attrs, (o.ty, o.kind))) (λ o. refl) (λ x. refl)
+
+pub op_head_inverse : Inverse op_head
+unfolding op_head op_head_form
+op_head_inverse =
+    same_inverse (before_inverse (bytes "(op") refl (seq_inverse field_inverse (seq_inverse field_inverse op_kind_head_inverse)))
+    to_op (λ o. (o.attrs, (o.ty, o.kind))) (λ o. refl) (λ x. refl)
 
 -- the rest of X, the operands and the end of the line
 abbrev pub op_rest : Op → List ℕ → Reading Ast.Op
@@ -146,13 +165,18 @@ selection_head_form = alt (keyword "bool") inst_head (λ b r. refl)
 unfoldable pub selection_head : Codec Selection
 selection_head = same selection_head_form to_selection of_selection selection_to_of selection_of_to
 
+selection_head_inverse : Inverse selection_head
+unfolding selection_head selection_head_form inst_head keyword sub before lit seq same view_as strip
+selection_head_inverse =
+    same_inverse (alt_inverse (keyword_inverse "bool") inst_head_inverse (λ b r. refl)) to_selection of_selection selection_to_of selection_of_to
+
 abbrev pub selection_rest : Selection → List ℕ → Reading SelectionKind
 selection_rest sel.Bool u = some (bool_cond, u)
 selection_rest (sel.Inst n) u = then (inst_rest n u) (λ x. some (spv_inst x.0, x.1))
 
 sel_kind_form_begins : Begins sel_kind_form selection_head_form (one_rest nothing inst_rest)
 unfolding sel_kind_form selection_head_form inst_form keyword sub before lit seq same view_as strip
-sel_kind_form_begins = begins_alt (λ b r. refl) (λ b r. refl) (begins_self (keyword "bool")) inst_begins (λ x r. refl)
+sel_kind_form_begins = begins_alt (λ b r. refl) (λ b r. refl) (keyword_inverse "bool") (begins_self (keyword "bool")) inst_begins (λ x r. refl)
 
 pub selection_begins : Begins sel_kind selection_head selection_rest
 unfolding sel_kind selection_head same view_as
@@ -199,9 +223,18 @@ unfoldable pub words : Codec ((Unit {0} ⊎ Unit {0}) ⊎ Unit {0})
 unfolding keyword lit alt strip
 words = alt (alt (keyword "unreachable") (keyword "return") (λ b r. refl)) (keyword "branch") (λ b r. refl)
 
+words_inverse : Inverse words
+unfolding words keyword lit alt strip
+words_inverse =
+    alt_inverse (alt_inverse (keyword_inverse "unreachable") (keyword_inverse "return") (λ b r. refl)) (keyword_inverse "branch") (λ b r. refl)
+
 unfoldable pub plain_head : Codec PlainHead
 unfolding words inst_head keyword sub before lit seq same view_as alt strip
 plain_head = alt words (sub "exit" inst_head) (λ b r. refl)
+
+plain_head_inverse : Inverse plain_head
+unfolding plain_head words inst_head keyword sub before lit seq same view_as alt strip
+plain_head_inverse = alt_inverse words_inverse (sub_inverse "exit" inst_head_inverse) (λ b r. refl)
 
 pub plain_head_apart : (k : Selection) (r : List ℕ) → plain_head.read (selection_head.print k ++ r) ≡ none
 unfolding plain_head words selection_head selection_head_form inst_head keyword sub before lit seq same view_as alt strip
@@ -213,6 +246,11 @@ control_head_form = alt plain_head selection_head plain_head_apart
 
 unfoldable pub control_head : Codec Control
 control_head = same control_head_form to_control of_control control_to_of control_of_to
+
+pub control_head_inverse : Inverse control_head
+unfolding control_head control_head_form
+control_head_inverse =
+    same_inverse (alt_inverse plain_head_inverse selection_head_inverse plain_head_apart) to_control of_control control_to_of control_of_to
 
 -- what is in the brackets of an exit, and its closing bracket
 abbrev pub exit_rest : ℕ → List ℕ → Reading Inst
@@ -228,7 +266,7 @@ control_rest (ctrl.Select k) u = then (selection_rest k u) (λ x. some (select_b
 plain_form_begins : Begins plain_form plain_head (one_rest nothing exit_rest)
 unfolding plain_form plain_head words inst_form inst_head closed after_word keyword sub before lit seq same view_as alt strip
 plain_form_begins =
-    begins_alt (λ b r. refl) (λ b r. refl) (begins_self words) (begins_before (bytes " (exit") refl (begins_after (bytes ")") refl inst_begins)) other
+    begins_alt (λ b r. refl) (λ b r. refl) words_inverse (begins_self words) (begins_before (bytes " (exit") refl (begins_after (bytes ")") refl inst_begins)) other
   where
     other : (x : (Unit {0} ⊎ Unit {0}) ⊎ Unit {0}) (r : List ℕ) → (sub "exit" (closed inst_form)).read (words.print x ++ r) ≡ none
     other (inl (inl _)) r = refl
@@ -237,7 +275,7 @@ plain_form_begins =
 
 kind_form_begins : Begins (alt plain_form sel_kind plain_apart) control_head_form (one_rest (one_rest nothing exit_rest) selection_rest)
 unfolding control_head_form plain_head words sel_kind sel_kind_form inst_form inst_head keyword sub before lit seq same view_as alt strip
-kind_form_begins = begins_alt plain_apart plain_head_apart plain_form_begins selection_begins other
+kind_form_begins = begins_alt plain_apart plain_head_apart plain_head_inverse plain_form_begins selection_begins other
   where
     other : (x : PlainHead) (r : List ℕ) → sel_kind.read (plain_head.print x ++ r) ≡ none
     other (inl (inl (inl _))) r = refl

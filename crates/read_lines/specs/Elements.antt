@@ -8,8 +8,10 @@ use Rattle.std.proofs.Common.{sym, subst}
 use Rattle.std.proofs.Math.Option.{Option, none}
 use Rattle.lifting.specs.Ast
 use Rattle.lifting.specs.Bytes.{bytes}
-use Rattle.lifting.specs.Codec.{Codec, Led, strip, lit, num, seq, view_as, same, alt, list, list_over, list_more}
+use Rattle.lifting.specs.Codec.{Codec, Led, strip, lit, num, seq, view_as, same, alt, list, list_over}
 use Rattle.lifting.specs.Grammar.{before, sub, spaced, field, numbers_codec, decl_codec, decl, decls_codec, value_codec, value_form, values_codec, imm_codec, imms_codec}
+use Rattle.lifting.proofs.Codec.{Inverse, list_more}
+use Rattle.lifting.proofs.Grammar.{decl_inverse, field_inverse, imm_codec_inverse, value_codec_inverse}
 use Rattle.func.specs.Layout.{pool_total, entry_words}
 use Rattle.func.specs.Keep.{keep_decl, keep_value, keep_imm, keep_number}
 use Rattle.read_lines.specs.declared.Element.{Element}
@@ -50,15 +52,15 @@ pub pool_placed : {e : Element} {k : ℕ} → e ≡ Number k → PoolPlaced e �
 pool_placed e p = subst PoolPlaced e p
 
 -- a list as the grammar has it
-pub list_listing : {A : Type 0} (C : Codec A) (s : List ℕ) (h : Led s) (apart : (r : List ℕ) → C.read (s ++ r) ≡ none) → Listing C s (list C s h apart)
-list_listing C s h apart = record { over = list_over C s h apart; more = list_more C s h apart; apart = apart }
+pub list_listing : {A : Type 0} {C : Codec A} → Inverse C → (s : List ℕ) (h : Led s) (apart : (r : List ℕ) → C.read (s ++ r) ≡ none) → Listing C s (list C s h apart)
+list_listing {C = C} c s h apart = record { over = list_over C s h apart; more = list_more c s h apart; apart = apart }
 
 pub listing : (e : Element) → Listing (element_of e) (bytes ")") (element_list e)
 unfolding numbers_codec decls_codec values_codec imms_codec field value_codec decl imm_codec value_form decl_codec num sub spaced before lit seq same view_as alt strip
-listing (Number k) = list_listing field (bytes ")") refl (λ r. refl)
-listing Value = list_listing value_codec (bytes ")") refl (λ r. refl)
-listing Decl = list_listing decl (bytes ")") refl (λ r. refl)
-listing Imm = list_listing imm_codec (bytes ")") refl (λ r. refl)
+listing (Number k) = list_listing field_inverse (bytes ")") refl (λ r. refl)
+listing Value = list_listing value_codec_inverse (bytes ")") refl (λ r. refl)
+listing Decl = list_listing decl_inverse (bytes ")") refl (λ r. refl)
+listing Imm = list_listing imm_codec_inverse (bytes ")") refl (λ r. refl)
 
 pub as_element : {d e : Element} {text : List ℕ} {at : ℕ} {found : Option (Unit {0} × ℕ)} {w v : List ℕ} → d ≡ e
     → Stores (element_of e).read (keep_element e) text at found w v → Stores (element_of d).read (keep_element d) text at found w v

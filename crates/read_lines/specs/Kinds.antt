@@ -12,7 +12,9 @@ use Rattle.lifting.specs.Ast.{Const, Decl, Region, Node}
 use Rattle.lifting.specs.Digits.{Reading}
 use Rattle.lifting.specs.Codec.{Whole, strip, lit, seq, view_as, same, alt, many, read_many}
 use Rattle.lifting.specs.Whole.{end}
-use Rattle.lifting.specs.Grammar.{Regions, Nodes, Ops, Ctrls, before, line, decl_codec, const_line, param_line, region_line, block_line, select_line, loop_line, exit_line, node_form, node_line, op_line, ctrl_line, ctrl_lines, op_lines, node_lines, region_lines, rest_form, rest_lines, param_lines, const_lines, const_apart, param_apart, region_apart, node_apart, op_apart}
+use Rattle.lifting.specs.Grammar.{Regions, Nodes, Ops, Ctrls, before, line, decl_codec, param_line, region_line, block_line, select_line, loop_line, exit_line, node_form, node_line, op_line, ctrl_line, ctrl_lines, op_lines, node_lines, region_lines, rest_form, rest_lines, param_lines, const_lines, const_apart, param_apart, region_apart, node_apart, op_apart}
+use Rattle.lifting.proofs.Grammar.{const_line_inverse, node_line_inverse, op_line_inverse, param_line_inverse, region_line_inverse}
+use Rattle.lifting.proofs.Codec.{lit_inverse}
 use Rattle.read_cursor.specs.Read.{Took, Denied, literal}
 use Rattle.read_cursor.specs.Answers.{step_of}
 use Rattle.read_cursor.specs.declared.Cursor.{Cursor}
@@ -20,7 +22,7 @@ use Rattle.read_cursor.specs.declared.Step.{Step}
 use Rattle.read_cursor.specs.declared.Step.TheVariants as step
 use Rattle.read_insts.specs.declared.Op.{Op}
 use Rattle.func.specs.Keep.{keep_const, keep_param, keep_region, keep_node, keep_op}
-use Rattle.read_insts.specs.Heads.{op_head_form, op_head}
+use Rattle.read_insts.specs.Heads.{op_head_form, op_head, op_head_inverse}
 use Rattle.read_lines.specs.declared.NodeWord.{NodeWord}
 use Rattle.read_lines.specs.declared.NodeWord.TheVariants.{Block, Select, Loop, Exit}
 use Rattle.read_lines.specs.declared.LineKind.{LineKind}
@@ -30,7 +32,7 @@ use Rattle.read_lines.specs.declared.LineRead.TheVariants as answer
 use Rattle.read_lines.specs.Stores.{Stores}
 use Rattle.read_lines.specs.Lines.{Going, Kind, LinesPassed, going_more, going_over, going_wrong, kind_of_law}
 use Rattle.read_lines.specs.Tails.{const_tail, const_begins, param_tail, param_begins, region_tail, region_begins, op_tail, op_line_begins}
-use Rattle.read_lines.specs.Nodes.{word_form, node_head, node_tail, node_begins}
+use Rattle.read_lines.specs.Nodes.{word_form, node_head, node_tail, node_begins, node_head_inverse}
 
 const_later : (u : Unit {0}) (r : List ℕ) → param_lines.read (bytes "(const" ++ r) ≡ none
 unfolding param_lines param_line decl_codec rest_lines rest_form region_line line before lit seq same view_as alt many read_many strip end
@@ -38,7 +40,7 @@ const_later u r = refl
 
 pub const_kind : Kind const_lines param_lines (literal (bytes "(const")) (λ u. const_tail)
 unfolding const_lines lit
-const_kind = kind_of_law const_line param_lines const_apart (lit (bytes "(const") refl) const_begins const_later
+const_kind = kind_of_law const_line_inverse param_lines const_apart (lit_inverse (bytes "(const") refl) const_begins const_later
 
 param_later : (u : Unit {0}) (r : List ℕ) → rest_lines.read (bytes "(param" ++ r) ≡ none
 unfolding rest_lines rest_form region_line line before lit seq same view_as alt strip end
@@ -46,7 +48,7 @@ param_later u r = refl
 
 pub param_kind : Kind param_lines rest_lines (literal (bytes "(param")) (λ u. param_tail)
 unfolding param_lines lit
-param_kind = kind_of_law param_line rest_lines param_apart (lit (bytes "(param") refl) param_begins param_later
+param_kind = kind_of_law param_line_inverse rest_lines param_apart (lit_inverse (bytes "(param") refl) param_begins param_later
 
 region_later : (u : Unit {0}) (r : List ℕ) → node_lines.read (bytes "(region (in" ++ r) ≡ none
 unfolding node_lines op_lines ctrl_lines node_line node_form block_line select_line loop_line exit_line op_line ctrl_line line before lit seq same view_as alt many read_many strip end
@@ -54,7 +56,7 @@ region_later u r = refl
 
 pub region_kind : Kind region_lines node_lines (literal (bytes "(region (in")) (λ u. region_tail)
 unfolding region_lines lit
-region_kind = kind_of_law region_line node_lines region_apart (lit (bytes "(region (in") refl) region_begins region_later
+region_kind = kind_of_law region_line_inverse node_lines region_apart (lit_inverse (bytes "(region (in") refl) region_begins region_later
 
 node_later : (w : NodeWord) (r : List ℕ) → op_lines.read (node_head.print w ++ r) ≡ none
 unfolding node_head word_form op_lines ctrl_lines op_line ctrl_line line before lit seq same view_as alt many read_many strip end
@@ -65,11 +67,11 @@ node_later Exit r = refl
 
 pub node_kind_law : Kind node_lines op_lines node_head.read node_tail
 unfolding node_lines
-node_kind_law = kind_of_law node_line op_lines node_apart node_head node_begins node_later
+node_kind_law = kind_of_law node_line_inverse op_lines node_apart node_head_inverse node_begins node_later
 
 pub op_kind_law : Kind op_lines ctrl_lines op_head.read op_tail
 unfolding op_lines op_head op_head_form ctrl_lines ctrl_line line before lit seq same view_as many read_many strip end
-op_kind_law = kind_of_law op_line ctrl_lines op_apart op_head op_line_begins (λ o r. refl)
+op_kind_law = kind_of_law op_line_inverse ctrl_lines op_apart op_head_inverse op_line_begins (λ o r. refl)
 
 -- by the kind that the code goes by: a line, what comes after the last of them, and the head that tells a line
 abbrev pub LineOf : LineKind → Type 0

@@ -10,7 +10,8 @@ use Rattle.std.proofs.Math.Path.{refl, ap}
 use Rattle.std.proofs.Common.{◌∙◌, arith}
 use Rattle.std.proofs.Math.Option.{Option, none, some, some-injective}
 use Rattle.lifting.specs.Digits.{Reading}
-use Rattle.lifting.specs.Codec.{Codec, Whole, then, onto, over, many, many_over, many_more}
+use Rattle.lifting.specs.Codec.{Codec, Whole, then, onto, over, many, many_over}
+use Rattle.lifting.proofs.Codec.{Inverse, many_more}
 use Rattle.read_cursor.specs.Read.{Took, Denied}
 use Rattle.read_cursor.specs.Begins.{Begins, go_on}
 use Rattle.read_cursor.specs.declared.Step.{Step}
@@ -34,14 +35,14 @@ pub record Kind {A B X : Type 0} (W : Whole (List A × B)) (D : Whole B) (head :
   pub more : (t : List ℕ) (x : X) (m : List ℕ) (a : A) (u : List ℕ) → head t ≡ some (x, m) → tail x m ≡ some (a, u) → W.read t ≡ then (W.read u) (onto a)
   pub wrong : (t : List ℕ) (x : X) (m : List ℕ) → head t ≡ some (x, m) → tail x m ≡ none → W.read t ≡ none
 
-pub kind_of_law : {A B X : Type 0} (C : Codec A) (D : Whole B) (apart : (b : B) (r : Unit {0}) → C.read (D.print b ++ []) ≡ none) (H : Codec X) {tail : X → List ℕ → Reading A}
+pub kind_of_law : {A B X : Type 0} {C : Codec A} → Inverse C → (D : Whole B) (apart : (b : B) (r : Unit {0}) → C.read (D.print b ++ []) ≡ none) {H : Codec X} → Inverse H → {tail : X → List ℕ → Reading A}
     → Begins C H tail → ((x : X) (r : List ℕ) → D.read (H.print x ++ r) ≡ none) → Kind (many C D apart) D H.read tail
-kind_of_law {A} {B} {X} C D apart H {tail} b later = record {
+kind_of_law {A} {B} {X} {C} c D apart {H} h {tail} b later = record {
   over = λ t e. many_over C D apart t (read_as t none e);
-  more = λ t x m a u e f. many_more C D apart t a u (read_as t (some (x, m)) e ∙ f);
+  more = λ t x m a u e f. many_more c D apart t a u (read_as t (some (x, m)) e ∙ f);
   wrong = λ t x m e f.
       many_over C D apart t (read_as t (some (x, m)) e ∙ f)
-      ∙ ap (λ (o : Option (B × Unit {0})). then o over) (ap D.read (H.sound t (x, m) e).0 ∙ later x m);
+      ∙ ap (λ (o : Option (B × Unit {0})). then o over) (ap D.read (h.sound t (x, m) e).0 ∙ later x m);
 }
   where
     read_as : (t : List ℕ) (o : Reading X) → H.read t ≡ o → C.read t ≡ go_on o tail

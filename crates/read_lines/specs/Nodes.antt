@@ -9,6 +9,7 @@ use Rattle.lifting.specs.Digits.{Reading}
 use Rattle.lifting.specs.Codec.{Codec, then, then_then, both_of, second, up, strip, lit, seq, view_as, same, alt}
 use Rattle.lifting.specs.Ast.{Value, Imm, Inst, SelectionKind, Decl, Node, exit}
 use Rattle.lifting.specs.Grammar.{before, closed, line, field, numbers_codec, values_codec, imms_codec, inst_form, sel_kind, block_line, select_line, loop_line, exit_line, node_form, node_line}
+use Rattle.lifting.proofs.Codec.{Inverse, alt_inverse, lit_inverse, same_inverse}
 use Rattle.read_cursor.specs.Begins.{go_on, Begins, one_rest, begins_alt}
 use Rattle.read_insts.specs.Heads.{inst_head, inst_rest, inst_begins, selection_head, selection_rest, selection_begins}
 use Rattle.read_insts.specs.declared.Selection.{Selection}
@@ -59,6 +60,13 @@ word_form =
 unfoldable pub node_head : Codec NodeWord
 node_head = same word_form to_word of_word word_to_of word_of_to
 
+pub node_head_inverse : Inverse node_head
+unfolding node_head word_form lit alt strip
+node_head_inverse =
+    same_inverse
+    (alt_inverse (alt_inverse (alt_inverse (lit_inverse (bytes "(block") refl) (lit_inverse (bytes "(select") refl) (λ b r. refl)) (lit_inverse (bytes "(loop") refl) (λ b r. refl)) (lit_inverse (bytes "(exit") refl) (λ b r. refl))
+    to_word of_word word_to_of word_of_to
+
 abbrev pub node_tail : NodeWord → List ℕ → Reading Node
 node_tail Block = block_tail
 node_tail Select = select_tail
@@ -90,9 +98,9 @@ form_begins : Begins node_form word_form
     (one_rest (one_rest (one_rest (λ u. (ended_by numbers_codec).read) (λ u. (seq sel_kind (seq select_lists control)).read)) (λ u. (seq field (seq loop_lists control)).read)) (λ u. (seq inst_form (ended_by values_codec)).read))
 unfolding node_form word_form block_line select_line loop_line exit_line line before lit seq same view_as alt strip
 form_begins =
-    begins_alt (λ b r. refl) (λ b r. refl)
-    (begins_alt (λ b r. refl) (λ b r. refl)
-    (begins_alt (λ b r. refl) (λ b r. refl) (begins_line "block" numbers_codec) select_begins (λ x r. refl))
+    begins_alt (λ b r. refl) (λ b r. refl) (alt_inverse (alt_inverse (lit_inverse (bytes "(block") refl) (lit_inverse (bytes "(select") refl) (λ b r. refl)) (lit_inverse (bytes "(loop") refl) (λ b r. refl))
+    (begins_alt (λ b r. refl) (λ b r. refl) (alt_inverse (lit_inverse (bytes "(block") refl) (lit_inverse (bytes "(select") refl) (λ b r. refl))
+    (begins_alt (λ b r. refl) (λ b r. refl) (lit_inverse (bytes "(block") refl) (begins_line "block" numbers_codec) select_begins (λ x r. refl))
     loop_begins first)
     exit_begins second
   where

@@ -2,13 +2,15 @@
 --     formed_by            the format
 --     settled_formed    it is settled
 --     plain-..          texts without brackets
-use Rattle.std.specs.Prelude.{◌≡◌, List, [], ◌∷◌, ◌++◌, Bool, true, false, ℕ, zero, suc, ◌+◌, ◌-◌, ◌/◌, ◌%◌, eqb, ltb, length, take, drop}
+use Rattle.std.specs.Prelude.{◌≡◌, List, [], ◌∷◌, ◌++◌, Bool, true, false, ℕ, zero, suc, ◌+◌, ◌/◌, ◌%◌, eqb, ltb, length, take, drop}
 use Rattle.std.proofs.Common.{sym, ap, subst, ◌∙◌, append_assoc, arith, ne_eqb}
 use Rattle.std.proofs.Math.Option.{Option, some, some-injective}
 use Rattle.std.proofs.Math.Seq.{take-append_seam, drop-append-add}
 use Rattle.lifting.specs.Digits.{Reading, digits, digits_to}
 use Rattle.lifting.specs.Codec.{Codec, Whole, Led, led_stop, then, then_some, strip, strip_sound, strip_full}
-use Rattle.lifting.specs.Whole.{read_whole, whole_sound, whole_full}
+use Rattle.lifting.specs.Whole.{read_whole}
+use Rattle.lifting.proofs.Codec.{Inverse}
+use Rattle.lifting.proofs.Whole.{whole_full, whole_sound}
 use Rattle.read_forms.specs.Form.{deeper, closes, form_span, span_sound}
 use Rattle.read_values.specs.Alike.{ReadBack}
 
@@ -65,27 +67,27 @@ module _ {A : Type 0} (s : List ℕ) (h : Led s) (W : Whole A) (plain : (a : A) 
   pub print_before : (a : A) (r : List ℕ) → print_form a ++ r ≡ s ++ (W.print a ++ (41 ∷ r))
   print_before a r = simp append_assoc
 
-  pub sound_form : (t : List ℕ) (x : A × List ℕ) → then (strip s t) parted ≡ some x → (t ≡ print_form x.0 ++ x.1) × W.Ok x.0
-  sound_form t x e =
+  pub sound_form : Inverse W → (t : List ℕ) (x : A × List ℕ) → then (strip s t) parted ≡ some x → (t ≡ print_form x.0 ++ x.1) × W.Ok x.0
+  sound_form i t x e =
       let p = then_some (strip s t) parted x e in
       let u = p.0 in
       let q = then_some (form_span 0 0 u) (within u) x p.2 in
       let m = q.0 in
       let v = then_some (read_whole W (take m u)) (inside u m) x q.2 in
-      let g = whole_sound W (take m u) v.0 v.1 in
+      let g = whole_sound i (take m u) v.0 v.1 in
       let w : u ≡ W.print v.0 ++ (41 ∷ drop (m + 1) u) = rw g.0 at (span_sound u m q.1) in
       subst (λ (y : A × List ℕ). (t ≡ print_form y.0 ++ y.1) × W.Ok y.0) (some-injective _ x v.2)
       (strip_sound s t u p.1 ∙ ap (λ (l : List ℕ). s ++ l) w ∙ sym (print_before v.0 (drop (m + 1) u)), g.1)
 
-  pub full_form : (a : A) → W.Ok a → (r : List ℕ) → then (strip s (print_form a ++ r)) parted ≡ some (a, r)
-  full_form a ok r =
+  pub full_form : Inverse W → (a : A) → W.Ok a → (r : List ℕ) → then (strip s (print_form a ++ r)) parted ≡ some (a, r)
+  full_form i a ok r =
       let u : List ℕ = W.print a ++ (41 ∷ r) in
       let z : 0 + length (W.print a) ≡ length (W.print a) = omega arith in
       ap (λ (l : List ℕ). then (strip s l) parted) (print_before a r)
       ∙ ap (λ (o : Option (List ℕ)). then o parted) (strip_full s u)
       ∙ ap (λ (o : Option ℕ). then o (within u)) (span_plain (W.print a) 0 r (plain a) ∙ ap {B = Option ℕ} some z)
       ∙ ap (λ (l : List ℕ). then (read_whole W l) (inside u (length (W.print a)))) (take-append_seam (W.print a) (41 ∷ r))
-      ∙ ap (λ (o : Option A). then o (inside u (length (W.print a)))) (whole_full W a ok)
+      ∙ ap (λ (o : Option A). then o (inside u (length (W.print a)))) (whole_full i a ok)
       ∙ ap (λ (l : List ℕ). some (a, l)) (drop-append-add (W.print a) (41 ∷ r) 1)
 
   unfoldable pub formed_by : Codec A
@@ -95,10 +97,12 @@ module _ {A : Type 0} (s : List ℕ) (h : Led s) (W : Whole A) (plain : (a : A) 
         print = print_form;
         read = λ t. then (strip s t) parted;
         stop = λ a r. rw (print_before a r) (led_stop s (W.print a ++ (41 ∷ r)) h);
-        sound = sound_form;
-        full = λ a ok r m. full_form a ok r;
       }
 
-  pub settled_formed : ReadBack formed_by
+  pub formed_by_inverse : Inverse W → Inverse formed_by
   unfolding formed_by
-  settled_formed = record { full = full_form }
+  formed_by_inverse i = record { sound = sound_form i; full = λ a ok r m. full_form i a ok r }
+
+  pub settled_formed : Inverse W → ReadBack formed_by
+  unfolding formed_by
+  settled_formed i = record { full = full_form i }

@@ -9,8 +9,11 @@ use Rattle.lifting.specs.Digits.{digits}
 use Rattle.lifting.specs.Codec.{Codec, Whole, Led, strip, lit, num, seq, view_as, same, alt}
 use Rattle.lifting.specs.Whole.{end}
 use Rattle.lifting.specs.Grammar.{ValueForm, value_form, before, after_word, closed, sub, field, one_codec, two}
+use Rattle.lifting.proofs.Codec.{Inverse, alt_inverse, same_inverse, seq_inverse}
+use Rattle.lifting.proofs.Grammar.{before_inverse, field_inverse, value_form_inverse}
+use Rattle.lifting.proofs.Whole.{end_inverse}
 use Rattle.read_values.specs.Alike.{ReadBack, alike, settled_after, settled_before}
-use Rattle.read_values.specs.Formed.{Plain, plain_append, plain_digits, formed_by, settled_formed}
+use Rattle.read_values.specs.Formed.{Plain, plain_append, plain_digits, formed_by, settled_formed, formed_by_inverse}
 
 -- `c N`, `r R I`, `n N I` or `d I`
 unfoldable pub value_parts : Codec ValueForm
@@ -22,6 +25,16 @@ value_parts =
 -- these words, and nothing more
 unfoldable pub value_part : Whole ValueForm
 value_part = same (seq value_parts end) (λ x. x.0) (λ v. (v, tt)) (λ v. refl) (λ x. refl)
+
+value_parts_inverse : Inverse value_parts
+unfolding value_parts before lit seq same view_as alt strip
+value_parts_inverse =
+    alt_inverse (alt_inverse (alt_inverse (before_inverse (bytes "c") refl field_inverse) (before_inverse (bytes "r") refl (seq_inverse field_inverse field_inverse)) (λ b r. refl)) (before_inverse (bytes "n") refl (seq_inverse field_inverse field_inverse)) (λ b r. refl))
+    (before_inverse (bytes "d") refl field_inverse) (λ b r. refl)
+
+value_part_inverse : Inverse value_part
+unfolding value_part
+value_part_inverse = same_inverse (seq_inverse value_parts_inverse end_inverse) (λ x. x.0) (λ v. (v, tt)) (λ v. refl) (λ x. refl)
 
 -- there is no bracket among them
 plain_one : (b n : ℕ) → Plain (b ∷ []) → Plain ((b ∷ 32 ∷ digits n) ++ [])
@@ -41,6 +54,10 @@ plain_part (inr i) = plain_one 100 i (refl, refl, tt)
 -- the form of a value, read by its part
 unfoldable pub value_by_part : Codec ValueForm
 value_by_part = formed_by (bytes " (") refl value_part plain_part
+
+value_by_part_inverse : Inverse value_by_part
+unfolding value_by_part
+value_by_part_inverse = formed_by_inverse (bytes " (") refl value_part plain_part value_part_inverse
 
 -- the same printer, for the same values
 same_print : (x : ValueForm) → value_form.print x ≡ value_by_part.print x
@@ -63,11 +80,11 @@ same_values (inr i) = regrouped
 -- each form ends with its bracket
 settled_one : (s : List ℕ) (h : Led s) → ReadBack (before s h one_codec)
 unfolding one_codec closed
-settled_one s h = settled_before s h (settled_after field (bytes ")") refl)
+settled_one s h = settled_before s h (settled_after field_inverse (bytes ")") refl)
 
 settled_two : (s : List ℕ) (h : Led s) → ReadBack (before s h two)
 unfolding two closed
-settled_two s h = settled_before s h (settled_after (seq field field) (bytes ")") refl)
+settled_two s h = settled_before s h (settled_after (seq_inverse field_inverse field_inverse) (bytes ")") refl)
 
 settled_words : ReadBack value_form
 unfolding value_form sub before lit seq same view_as alt strip
@@ -81,4 +98,4 @@ settled_words = record { full = go }
 
 pub value_by_part_law : (t : List ℕ) → value_form.read t ≡ value_by_part.read t
 unfolding value_by_part
-value_by_part_law = alike value_form value_by_part same_print same_values settled_words (settled_formed (bytes " (") refl value_part plain_part)
+value_by_part_law = alike value_form_inverse value_by_part_inverse same_print same_values settled_words (settled_formed (bytes " (") refl value_part plain_part value_part_inverse)

@@ -1,0 +1,4 @@
+pub mod Digits
+pub mod Codec
+pub mod Whole
+pub mod Grammar
