@@ -109,9 +109,9 @@ gathered_prints room kept len g h =
     sym (take-take (len - 3) len room (omega arith)) ∙ ap (take (len - 3)) g.front ∙ take-take (len - 3) (length room) kept (omega (arith, g.count)) in
     let whole : take (len - 3) kept ≡ take (length room - 3) (without_mark kept) =
     ⊎_elim (λ few. let e : len - 3 ≡ length kept - 3 = omega (arith, g.count) in
-            ap (λ (n : ℕ). take n kept) e ∙ sym (take_all (length room - 3) (without_mark kept) (omega (arith, length-take (length kept - 3) kept))))
+    ap (λ (n : ℕ). take n kept) e ∙ sym (take_all (length room - 3) (without_mark kept) (omega (arith, length-take (length kept - 3) kept))))
     (λ many. let e : len - 3 ≡ length room - 3 = omega (arith, g.count) in
-        ap (λ (n : ℕ). take n kept) e ∙ sym (take-take (length room - 3) (length kept - 3) kept (omega arith)))
+    ap (λ (n : ℕ). take n kept) e ∙ sym (take-take (length room - 3) (length kept - 3) kept (omega arith)))
     (le_or (length kept) (length room)) in
     ap case_bytes (front ∙ whole) ∙ case_cut (length room - 3) (omega arith) (without_mark kept)
 
@@ -205,20 +205,23 @@ turn_refilled w None buffer text after kept all s next done g f read end = absur
 turn_refilled w (Some left) buffer text after kept all s next done g f read end =
     let none : pending buffer s ≡ [] = drop_of_length-le (take s.till buffer) done in
     let came : pending after next ≡ take next.till after = ap (λ (n : ℕ). drop n (take next.till after)) f.from in
-    let long : length (take next.till after) ≡ next.till = length-take-le next.till after f.till in
-    (left, refl, record {
-      printed = [];
-      then_kept = kept;
-      written = Appends-nil w;
-      gathered = subst (λ (n : ℕ). Gathered text n kept) (sym f.len) g;
-      same = ap (λ (l : List ℕ). batch_from kept s.matched (l ++ all)) none
-          ∙ ap (batch_from kept s.matched) (read ∙ ap (λ (l : List ℕ). l ++ left) (sym came))
-          ∙ ap (λ (m : ℕ). batch_from kept m (pending after next ++ left)) (sym f.matched);
-      fewer = λ more. omega (arith, f.more.0 more, ap length came, ap length read, length-append (take next.till after) left);
-      ended = λ no_more.
-          let zero : next.till ≡ 0 = nothing next.till (λ some. absurd (true≢false (sym (f.more.1 some) ∙ no_more))) in
-          ap (λ (l : List ℕ). l ++ left) (came ∙ ap (λ (n : ℕ). take n after) zero) ∙ end zero;
-    })
+    let long : length (take next.till after) ≡ next.till = length-take-le next.till after f.till in (
+      left,
+      refl,
+      record {
+        printed = [];
+        then_kept = kept;
+        written = Appends-nil w;
+        gathered = subst (λ (n : ℕ). Gathered text n kept) (sym f.len) g;
+        same = ap (λ (l : List ℕ). batch_from kept s.matched (l ++ all)) none
+            ∙ ap (batch_from kept s.matched) (read ∙ ap (λ (l : List ℕ). l ++ left) (sym came))
+            ∙ ap (λ (m : ℕ). batch_from kept m (pending after next ++ left)) (sym f.matched);
+        fewer = λ more. omega (arith, f.more.0 more, ap length came, ap length read, length-append (take next.till after) left);
+        ended = λ no_more.
+            let zero : next.till ≡ 0 = nothing next.till (λ some. absurd (true≢false (sym (f.more.1 some) ∙ no_more))) in
+            ap (λ (l : List ℕ). l ++ left) (came ∙ ap (λ (n : ℕ). take n after) zero) ∙ end zero;
+      },
+    )
   where
     nothing : (n : ℕ) → (0 < n → ⊥) → n ≡ 0
     nothing n h = omega arith
