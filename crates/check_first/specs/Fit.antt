@@ -1,5 +1,5 @@
 -- Refusal 9 in two halves: the first id against the ids in the text, and the ids that would be given. Assumes nothing.
---     ids_fit_law     the first half is what `first_fits_law` answers; the second asks first that the first id itself is no higher than an id may be, so that
+--     ids_fit_law     the first half is what `first_fits` answers; the second asks first that the first id itself is no higher than an id may be, so that
 --                 adding to it stays small
 use Rattle.std.specs.Prelude.{◌≡◌, refl, Bool, true, false, ◌&&◌, ℕ, suc, ◌≤◌, leb, ltb}
 use Rattle.std.proofs.Common.{sym, ap, ◌∙◌, arith, leb-true, le-leb}

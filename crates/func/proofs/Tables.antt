@@ -297,18 +297,18 @@ module _ {w : List ℕ} (t : Tables w) (i : ℕ) (h : i < length (func_of w).ctr
     pub entry_within : {at : ℕ} → at ≡ word ctrls w i 7 / 4096 + e → Within entries w at
     entry_within q = item_in ctrl_entries e entry_below q
 
-    entry_at : (at : ℕ) → at ≡ word ctrls w i 7 / 4096 + e → Row w (get_or (view entries w) at []) (entry_cells (entry_of (func_of w) i e))
-    entry_at at q =
+    entry_at_law : (at : ℕ) → at ≡ word ctrls w i 7 / 4096 + e → Row w (get_or (view entries w) at []) (entry_cells (entry_of (func_of w) i e))
+    entry_at_law at q =
         subst (λ x. Row w x (entry_cells (entry_of (func_of w) i e))) (sym (item_is ctrl_entries e entry_below [] q))
         (rows_each_at (ctrl_at_law t i h).vals e (0, []) l)
 
     pub entry_region_is : (at : ℕ) → at ≡ word ctrls w i 7 / 4096 + e → word entries w at 0 ≡ (entry_of (func_of w) i e).0
     unfolding entry_cells
-    entry_region_is at q = (entry_at at q).cell 0 (lit< tt)
+    entry_region_is at q = (entry_at_law at q).cell 0 (lit< tt)
 
     pub entry_values : (at : ℕ) → at ≡ word ctrls w i 7 / 4096 + e → Listed values value_words (entry_of (func_of w) i e).1 w (word entries w at 1)
     unfolding entry_cells
-    entry_values at q = record { size = t.size; fits = t.counts values (lit< tt); pool = lit< tt; piece = (entry_at at q).cell 1 (lit< tt) (t.counts values (lit< tt)) }
+    entry_values at q = record { size = t.size; fits = t.counts values (lit< tt); pool = lit< tt; piece = (entry_at_law at q).cell 1 (lit< tt) (t.counts values (lit< tt)) }
 
     pub entry_kept : every first_fits (entry_of (func_of w) i e).1 ≡ true
     entry_kept =

@@ -158,21 +158,21 @@ module _ (F : Func) {Val : Type 0} (W : World Val) (B : CfgPoint → BlockLiftin
     abbrev landing : CfgPoint → BlockLifting → List Value → Mem Val Value → Out (PointState Val) (End Val)
     landing q b vs m = reading (reads m.env vs) (λ ws. go (record { at = q; ops = b.ops; mem = sets b.keys ws m }))
 
-    abbrev at_end_law : CfgPoint → Mem Val Value → PointState Val
-    at_end_law q m = record { at = q; ops = []; mem = m }
+    abbrev ops_done : CfgPoint → Mem Val Value → PointState Val
+    ops_done q m = record { at = q; ops = []; mem = m }
 
     abbrev to_do : List Task → Mem Val Value → RegionState Val
     to_do k m = record { todo = k; mem = m }
 
     -- the way out of a point whose block is known
-    out_of : {q : CfgPoint} {b : BlockLifting} (m : Mem Val Value) → B q ≡ b → point_step F W B (at_end_law q m) ≡ leave_point F W B b.term m
+    out_of : {q : CfgPoint} {b : BlockLifting} (m : Mem Val Value) → B q ≡ b → point_step F W B (ops_done q m) ≡ leave_point F W B b.term m
     out_of m e = ap (λ (b : BlockLifting). leave_point F W B b.term m) e
 
     land : {q : CfgPoint} {b : BlockLifting} (m : Mem Val Value) → B q ≡ b → landing q (B q) (B q).defaults m ≡ landing q b b.defaults m
     land {q} m e = ap (λ (b : BlockLifting). landing q b b.defaults m) e
 
     straight_on : {q q_next : CfgPoint} {b b_next : BlockLifting} (m : Mem Val Value) → B q ≡ b → b.term ≡ straight q_next → B q_next ≡ b_next
-        → point_step F W B (at_end_law q m) ≡ landing q_next b_next b_next.defaults m
+        → point_step F W B (ops_done q m) ≡ landing q_next b_next b_next.defaults m
     straight_on m e t e_right = out_of m e ∙ ap (λ (t : Terminator). leave_point F W B t m) t ∙ land m e_right
 
     edge_is : (t : Terminator) (q : CfgPoint) (b : BlockLifting) (vs : List Value) → t.vals ≡ some_vals q vs → B q ≡ b → (vs ≡ [] → b.defaults ≡ []) → edge F W B t q ≡ vs
@@ -196,12 +196,12 @@ module _ (F : Func) {Val : Type 0} (W : World Val) (B : CfgPoint → BlockLiftin
     -- at the end of a case
     leave_case : {r n c : ℕ} {p : Place} {ns : List ℕ} {kd : SelectionKind} {v : Value} {cs : List ℕ} {ds : List Decl} {u : ℕ} {K : List Task} (m : Mem Val Value)
         → VisitedAt F c (in_node n) → VisitedAt F r p → Suffix (region_of F r).nodes (n ∷ ns) → node_of F n ≡ select kd v cs ds u → Tail r p K → Consts F W m
-        → Big (to_do (close (out_keys n ds) c ∷ (map node ns ++ K)) m) (at_end_law (region_exit c) m)
+        → Big (to_do (close (out_keys n ds) c ∷ (map node ns ++ K)) m) (ops_done (region_exit c) m)
     leave_case {r} {n} {c} {ns} {kd} {v} {cs} {ds} {u} {K} m vc vr sf e tl cm =
         let ex : B (region_exit c) ≡ plain (child_term F (select kd v cs ds u) n (region_of F c).outs) = laid.exit_at vc ∙ ap (λ (d : Node). plain (child_term F d n (region_of F c).outs)) e in
         let ot : B (node_exit n) ≡ out_block F (select kd v cs ds u) n (next_point r ns) = laid.out_at vr sf ∙ ap (λ (d : Node). out_block F d n (next_point r ns)) e in
         let t = child_term F (select kd v cs ds u) n (region_of F c).outs in
-        let right : point_step F W B (at_end_law (region_exit c) m) ≡ landing (node_exit n) (out_block F (select kd v cs ds u) n (next_point r ns)) (region_of F c).outs m
+        let right : point_step F W B (ops_done (region_exit c) m) ≡ landing (node_exit n) (out_block F (select kd v cs ds u) n (next_point r ns)) (region_of F c).outs m
         = out_of m ex ∙ jump_is t (node_exit n) _ _ m (edge_is t (node_exit n) _ (region_of F c).outs refl ot (λ x. refl)) ot in
         at_once _ _ _ _ _ _ _ (subst (λ (y : Out (PointState Val) (End Val)). MeetOut LinkedStates (region_step F W (to_do (close (out_keys n ds) c ∷ (map node ns ++ K)) m)) y) (sym right)
         (meet_reading LinkedStates (reads m.env (region_of F c).outs) _ _
@@ -221,7 +221,7 @@ module _ (F : Func) {Val : Type 0} (W : World Val) (B : CfgPoint → BlockLiftin
     leave_loop : {r n b : ℕ} {p : Place} {ns : List ℕ} {c : Value} {is : List Value} {u : ℕ} {K : List Task} (m : Mem Val Value)
         → VisitedAt F b (in_node n) → VisitedAt F r p → Suffix (region_of F r).nodes (n ∷ ns) → node_of F n ≡ loop b c is u → Tail r p K → Consts F W m
         → (a : Bool) → always F c ≡ a
-        → Big (to_do (again b c ∷ (map node ns ++ K)) m) (at_end_law (region_exit b) m)
+        → Big (to_do (again b c ∷ (map node ns ++ K)) m) (ops_done (region_exit b) m)
     leave_loop {r} {n} {b} {ns} {c} {is} {u} {K} m vb vr sf e tl cm true a =
         let outs = (region_of F b).outs in
         let k = again b c ∷ (map node ns ++ K) in
@@ -229,14 +229,14 @@ module _ (F : Func) {Val : Type 0} (W : World Val) (B : CfgPoint → BlockLiftin
         = laid.exit_at vb ∙ ap (λ (d : Node). plain (child_term F d n outs)) e ∙ ap (λ (x : Bool). plain (loop_term F x n c outs)) a in
         let it : B (node_entry n) ≡ in_block F (loop b c is u) n = laid.in_at vr sf ∙ ap (λ (d : Node). in_block F d n) e in
         let t = loop_term F true n c outs in
-        let right : point_step F W B (at_end_law (region_exit b) m) ≡ landing (node_entry n) (in_block F (loop b c is u) n) outs m
+        let right : point_step F W B (ops_done (region_exit b) m) ≡ landing (node_entry n) (in_block F (loop b c is u) n) outs m
         = out_of m ex ∙ jump_is t (node_entry n) _ _ m (edge_is t (node_entry n) _ outs refl it (λ x. ok.loop_fit n e x)) it in
         let w = always_reads c m cm a in
         let lap : List Val → Out (RegionState Val) (End Val) = λ ws. go (to_do (nodes_then F W b k) (sets (ins_keys F b) ws m)) in
         let left : region_step F W (to_do k m) ≡ reading (reads m.env outs) lap
         = ap (λ (o : Option (List Val)). reading o (λ vs. cond (truths W vs) (reading (reads m.env outs) lap) (go (to_do (map node ns ++ K) m)))) w.1
         ∙ ap (λ (x : Bool). cond x (reading (reads m.env outs) lap) (go (to_do (map node ns ++ K) m))) w.2 in
-        at_once _ _ _ _ _ _ _ (subst (λ (x : Out (RegionState Val) (End Val)). MeetOut LinkedStates x (point_step F W B (at_end_law (region_exit b) m))) (sym left)
+        at_once _ _ _ _ _ _ _ (subst (λ (x : Out (RegionState Val) (End Val)). MeetOut LinkedStates x (point_step F W B (ops_done (region_exit b) m))) (sym left)
         (subst (λ (y : Out (PointState Val) (End Val)). MeetOut LinkedStates (reading (reads m.env outs) lap) y) (sym right)
         (meet_reading LinkedStates (reads m.env outs) _ _
         (λ vs. out_go (linked [] (node_entry n) (nodes_then F W b k) (sets (ins_keys F b) vs m) (after_loop vr sf e tl) (consts_rin F W m b (length (region_of F b).ins) vs cm))))))
@@ -250,7 +250,7 @@ module _ (F : Func) {Val : Type 0} (W : World Val) (B : CfgPoint → BlockLiftin
         let t = loop_term F false n c outs in
         let back : jump F W B t (node_entry n) m ≡ landing (node_entry n) (in_block F (loop b c is u) n) outs m
         = jump_is t (node_entry n) _ _ m (edge_is t (node_entry n) _ outs refl it (λ x. ok.loop_fit n e x)) it in
-        let off : jump F W B t (node_exit n) m ≡ go (at_end_law (node_exit n) m)
+        let off : jump F W B t (node_exit n) m ≡ go (ops_done (node_exit n) m)
         = jump_is t (node_exit n) _ _ m (edge_out t n _ outs refl ot refl) ot in
         let lap : List Val → Out (RegionState Val) (End Val) = λ ws. go (to_do (nodes_then F W b k) (sets (ins_keys F b) ws m)) in
         let two : (x : Bool) → MeetOut LinkedStates (cond x (reading (reads m.env outs) lap) (go (to_do (map node ns ++ K) m)))
@@ -304,7 +304,7 @@ module _ (F : Func) {Val : Type 0} (W : World Val) (B : CfgPoint → BlockLiftin
     leave_root r m vr cm none e = meet_reading LinkedStates (reads m.env (region_of F r).outs) _ _ (λ vs. out_halt)
     leave_root r m vr cm (some c) e = meet_reading LinkedStates (reads m.env c.ins) _ _ (λ vs. leave_by_law m vr e cm vs c.kind (ok.ctrl_fit r e))
 
-    leave_region : {r : ℕ} {p : Place} {K : List Task} (m : Mem Val Value) → VisitedAt F r p → Tail r p K → Consts F W m → Big (to_do K m) (at_end_law (region_exit r) m)
+    leave_region : {r : ℕ} {p : Place} {K : List Task} (m : Mem Val Value) → VisitedAt F r p → Tail r p K → Consts F W m → Big (to_do K m) (ops_done (region_exit r) m)
     leave_region m vr (tail_top {r}) cm =
         at_once _ _ _ _ _ _ _ (subst (λ (y : Out (PointState Val) (End Val)). MeetOut LinkedStates (region_step F W (to_do (leave r ∷ []) m)) y) (sym (out_of m (laid.exit_at vr)))
         (leave_root r m vr cm (ctrl_of F r) refl))
@@ -315,18 +315,18 @@ module _ (F : Func) {Val : Type 0} (W : World Val) (B : CfgPoint → BlockLiftin
     into_node : {r n : ℕ} {p : Place} {ns : List ℕ} {K : List Task} {q : CfgPoint} {b : BlockLifting} (m : Mem Val Value) (d : Node) → node_of F n ≡ d
         → B q ≡ b → b.term ≡ straight (node_entry n)
         → VisitedAt F r p → Suffix (region_of F r).nodes (n ∷ ns) → Tail r p K → Consts F W m
-        → Big (to_do (node n ∷ (map node ns ++ K)) m) (at_end_law q m)
+        → Big (to_do (node n ∷ (map node ns ++ K)) m) (ops_done q m)
     into_node {n} {ns} {K} {q} m (block is) e bq bt vr sf tl cm =
         let it : B (node_entry n) ≡ in_block F (block is) n = laid.in_at vr sf ∙ ap (λ (d : Node). in_block F d n) e in
-        let right : point_step F W B (at_end_law q m) ≡ go (record { at = node_entry n; ops = is; mem = m }) = straight_on m bq bt it in
+        let right : point_step F W B (ops_done q m) ≡ go (record { at = node_entry n; ops = is; mem = m }) = straight_on m bq bt it in
         let left : region_step F W (to_do (node n ∷ (map node ns ++ K)) m) ≡ go (to_do (map op is ++ (map node ns ++ K)) m)
         = ap (λ (d : Node). do_node F W d n (map node ns ++ K) m) e in
-        at_once _ _ _ _ _ _ _ (subst (λ (x : Out (RegionState Val) (End Val)). MeetOut LinkedStates x (point_step F W B (at_end_law q m))) (sym left)
+        at_once _ _ _ _ _ _ _ (subst (λ (x : Out (RegionState Val) (End Val)). MeetOut LinkedStates x (point_step F W B (ops_done q m))) (sym left)
         (subst (λ (y : Out (PointState Val) (End Val)). MeetOut LinkedStates (go (to_do (map op is ++ (map node ns ++ K)) m)) y) (sym right)
         (out_go (linked is (node_entry n) (map node ns ++ K) m (after_block vr sf e tl) cm))))
     into_node {n} {ns} {K} {q} m (select kd v cs ds u) e bq bt vr sf tl cm =
         let it : B (node_entry n) ≡ in_block F (select kd v cs ds u) n = laid.in_at vr sf ∙ ap (λ (d : Node). in_block F d n) e in
-        let hop : point_step F W B (at_end_law q m) ≡ go (at_end_law (node_entry n) m) = straight_on m bq bt it in
+        let hop : point_step F W B (ops_done q m) ≡ go (ops_done (node_entry n) m) = straight_on m bq bt it in
         let t = (in_block F (select kd v cs ds u) n).term in
         let left : region_step F W (to_do (node n ∷ (map node ns ++ K)) m) ≡ do_node F W (select kd v cs ds u) n (map node ns ++ K) m
         = ap (λ (d : Node). do_node F W d n (map node ns ++ K) m) e in
@@ -335,12 +335,12 @@ module _ (F : Func) {Val : Type 0} (W : World Val) (B : CfgPoint → BlockLiftin
         = λ vs c g ge i.
         let vc = in_case vr sf e i in
         let en : B (region_entry c) ≡ entry_block F c (in_node n) = laid.entry_at vc in
-        let right : jump F W B t g m ≡ go (at_end_law (region_entry c) m)
+        let right : jump F W B t g m ≡ go (ops_done (region_entry c) m)
         = ap (λ (x : CfgPoint). jump F W B t x m) ge ∙ jump_is t (region_entry c) _ [] m (ap (λ (b : BlockLifting). b.defaults) en) en in
         subst (λ (y : Out (PointState Val) (End Val)). MeetOut LinkedStates (go (to_do (nodes_then F W c (close (out_keys n ds) c ∷ (map node ns ++ K))) m)) y) (sym right)
         (out_go (linked [] (region_entry c) _ m (after_entry vc (tail_case vr sf e tl)) cm)) in
         right_first _ _ _ _ _ hop refl
-        (at_once _ _ _ _ _ _ _ (subst (λ (x : Out (RegionState Val) (End Val)). MeetOut LinkedStates x (point_step F W B (at_end_law (node_entry n) m))) (sym left)
+        (at_once _ _ _ _ _ _ _ (subst (λ (x : Out (RegionState Val) (End Val)). MeetOut LinkedStates x (point_step F W B (ops_done (node_entry n) m))) (sym left)
         (subst (λ (y : Out (PointState Val) (End Val)). MeetOut LinkedStates (do_node F W (select kd v cs ds u) n (map node ns ++ K) m) y) (sym (out_of m it))
         (meet_reading LinkedStates (reads m.env (v ∷ [])) _ _ (λ vs.
         each vs (get_or cs (pick W kd vs (length cs)) 0) _
@@ -348,30 +348,30 @@ module _ (F : Func) {Val : Type 0} (W : World Val) (B : CfgPoint → BlockLiftin
         (in_get_or cs _ 0 (pick_lt W kd vs (length cs) (ok.cases_fit_law n e))))))))
     into_node {n} {ns} {K} {q} m (loop b c is u) e bq bt vr sf tl cm =
         let it : B (node_entry n) ≡ in_block F (loop b c is u) n = laid.in_at vr sf ∙ ap (λ (d : Node). in_block F d n) e in
-        let right : point_step F W B (at_end_law q m) ≡ landing (node_entry n) (in_block F (loop b c is u) n) is m = straight_on m bq bt it in
+        let right : point_step F W B (ops_done q m) ≡ landing (node_entry n) (in_block F (loop b c is u) n) is m = straight_on m bq bt it in
         let left : region_step F W (to_do (node n ∷ (map node ns ++ K)) m) ≡ do_node F W (loop b c is u) n (map node ns ++ K) m
         = ap (λ (d : Node). do_node F W d n (map node ns ++ K) m) e in
-        at_once _ _ _ _ _ _ _ (subst (λ (x : Out (RegionState Val) (End Val)). MeetOut LinkedStates x (point_step F W B (at_end_law q m))) (sym left)
+        at_once _ _ _ _ _ _ _ (subst (λ (x : Out (RegionState Val) (End Val)). MeetOut LinkedStates x (point_step F W B (ops_done q m))) (sym left)
         (subst (λ (y : Out (PointState Val) (End Val)). MeetOut LinkedStates (do_node F W (loop b c is u) n (map node ns ++ K) m) y) (sym right)
         (meet_reading LinkedStates (reads m.env is) _ _ (λ vs.
         out_go (linked [] (node_entry n) _ (sets (ins_keys F b) vs m) (after_loop vr sf e tl) (consts_rin F W m b (length (region_of F b).ins) vs cm))))))
     into_node {n} {ns} {K} {q} m (exit i ws) e bq bt vr sf tl cm =
         let it : B (node_entry n) ≡ in_block F (exit i ws) n = laid.in_at vr sf ∙ ap (λ (d : Node). in_block F d n) e in
-        let hop : point_step F W B (at_end_law q m) ≡ go (at_end_law (node_entry n) m) = straight_on m bq bt it in
+        let hop : point_step F W B (ops_done q m) ≡ go (ops_done (node_entry n) m) = straight_on m bq bt it in
         let left : region_step F W (to_do (node n ∷ (map node ns ++ K)) m) ≡ do_node F W (exit i ws) n (map node ns ++ K) m
         = ap (λ (d : Node). do_node F W d n (map node ns ++ K) m) e in
         right_first _ _ _ _ _ hop refl
-        (at_once _ _ _ _ _ _ _ (subst (λ (x : Out (RegionState Val) (End Val)). MeetOut LinkedStates x (point_step F W B (at_end_law (node_entry n) m))) (sym left)
+        (at_once _ _ _ _ _ _ _ (subst (λ (x : Out (RegionState Val) (End Val)). MeetOut LinkedStates x (point_step F W B (ops_done (node_entry n) m))) (sym left)
         (subst (λ (y : Out (PointState Val) (End Val)). MeetOut LinkedStates (do_node F W (exit i ws) n (map node ns ++ K) m) y) (sym (out_of m it))
         (meet_reading LinkedStates (reads m.env ws) _ _ (λ vs. out_halt)))))
 
     -- on to what follows the nodes before ns
     flow : {r : ℕ} {p : Place} {K : List Task} {q : CfgPoint} {b : BlockLifting} (m : Mem Val Value) (ns : List ℕ) → B q ≡ b → b.term ≡ straight (next_point r ns)
-        → VisitedAt F r p → Suffix (region_of F r).nodes ns → Tail r p K → Consts F W m → Big (to_do (map node ns ++ K) m) (at_end_law q m)
+        → VisitedAt F r p → Suffix (region_of F r).nodes ns → Tail r p K → Consts F W m → Big (to_do (map node ns ++ K) m) (ops_done q m)
     flow m [] bq bt vr sf tl cm = right_first _ _ _ _ _ (straight_on m bq bt (laid.exit_at vr)) refl (leave_region m vr tl cm)
     flow m (n ∷ ns) bq bt vr sf tl cm = into_node m (node_of F n) refl bq bt vr sf tl cm
 
-    after_ops : {q : CfgPoint} {K : List Task} (m : Mem Val Value) → After q K → Consts F W m → Big (to_do K m) (at_end_law q m)
+    after_ops : {q : CfgPoint} {K : List Task} (m : Mem Val Value) → After q K → Consts F W m → Big (to_do K m) (ops_done q m)
     after_ops m (after_entry {r} vr tl) cm = flow m (region_of F r).nodes (laid.entry_at vr) refl vr whole tl cm
     after_ops m (after_block {r} {n} {ns} {is} vr sf e tl) cm =
         let it : B (node_entry n) ≡ in_block F (block is) n = laid.in_at vr sf ∙ ap (λ (d : Node). in_block F d n) e in
@@ -383,7 +383,7 @@ module _ (F : Func) {Val : Type 0} (W : World Val) (B : CfgPoint → BlockLiftin
         let vb = in_loop vr sf e in
         let en : B (region_entry b) ≡ entry_block F b (in_node n) = laid.entry_at vb in
         let t = (in_block F (loop b c is u) n).term in
-        let hop : point_step F W B (at_end_law (node_entry n) m) ≡ go (at_end_law (region_entry b) m)
+        let hop : point_step F W B (ops_done (node_entry n) m) ≡ go (ops_done (region_entry b) m)
         = out_of m it ∙ jump_is t (region_entry b) _ [] m (ap (λ (x : BlockLifting). x.defaults) en) en in
         right_first _ _ _ _ _ hop refl (flow m (region_of F b).nodes en refl vb whole (tail_loop vr sf e tl) cm)
 

@@ -13,11 +13,11 @@ use Rattle.lifting_runs.specs.Accepted.{Root}
 use Rattle.lifting_runs.specs.Tour.{Tree, points_append}
 
 -- points of different kinds
-kind_of_law : CfgPoint → ℕ
-kind_of_law (region_entry r) = 0
-kind_of_law (region_exit r) = 1
-kind_of_law (node_entry n) = 2
-kind_of_law (node_exit n) = 3
+point_kind : CfgPoint → ℕ
+point_kind (region_entry r) = 0
+point_kind (region_exit r) = 1
+point_kind (node_entry n) = 2
+point_kind (node_exit n) = 3
 
 num_of : CfgPoint → ℕ
 num_of (region_entry r) = r
@@ -47,8 +47,8 @@ module _ (F : Func) (depth : ℕ) (tr : Tree F depth) where
   under_rank (below {s} {d} n u i j) = omega (arith, under_rank u, tr.rank_falls s n d i j)
 
   -- the region of a point is its own
-  home_is : {d : ℕ} {p : CfgPoint} → Home d p → ((kind_of_law p ≡ 0) × (num_of p ≡ d)) ⊎ (((kind_of_law p ≡ 1) × (num_of p ≡ d)) ⊎ (((kind_of_law p ≡ 2) × In (num_of p) (region_of F d).nodes) ⊎ ((kind_of_law p ≡ 3) × In (num_of p) (region_of F d).nodes)))
-  unfolding kind_of_law num_of
+  home_is : {d : ℕ} {p : CfgPoint} → Home d p → ((point_kind p ≡ 0) × (num_of p ≡ d)) ⊎ (((point_kind p ≡ 1) × (num_of p ≡ d)) ⊎ (((point_kind p ≡ 2) × In (num_of p) (region_of F d).nodes) ⊎ ((point_kind p ≡ 3) × In (num_of p) (region_of F d).nodes)))
+  unfolding point_kind num_of
   home_is home_entry = inl (refl, refl)
   home_is home_exit = inr (inl (refl, refl))
   home_is (home_in i) = inr (inr (inl (refl, i)))
@@ -58,7 +58,7 @@ module _ (F : Func) (depth : ℕ) (tr : Tree F depth) where
   home_once {d} {e} {p} a b = by_case (home_is a) (home_is b)
     where
       Four : ℕ → Type 0
-      Four d = ((kind_of_law p ≡ 0) × (num_of p ≡ d)) ⊎ (((kind_of_law p ≡ 1) × (num_of p ≡ d)) ⊎ (((kind_of_law p ≡ 2) × In (num_of p) (region_of F d).nodes) ⊎ ((kind_of_law p ≡ 3) × In (num_of p) (region_of F d).nodes)))
+      Four d = ((point_kind p ≡ 0) × (num_of p ≡ d)) ⊎ (((point_kind p ≡ 1) × (num_of p ≡ d)) ⊎ (((point_kind p ≡ 2) × In (num_of p) (region_of F d).nodes) ⊎ ((point_kind p ≡ 3) × In (num_of p) (region_of F d).nodes)))
 
       by_case : Four d → Four e → d ≡ e
       by_case (inl x) (inl y) = sym x.1 ∙ y.1
@@ -244,17 +244,17 @@ module _ (F : Func) (depth : ℕ) (tr : Tree F depth) where
       by_case ih (inr (inr i)) = let x = nodes_spot (λ c x. walk_region F k c x) ih r (region_of F r).nodes p i in spot_placed r x.0 p x.1 x.2
 
   -- no point of the nodes is the region's entry or exit
-  spot_own : (r n : ℕ) (p : CfgPoint) → In n (region_of F r).nodes → Spot n p → (kind_of_law p ≡ 0) ⊎ (kind_of_law p ≡ 1) → Home r p → ⊥
-  unfolding kind_of_law
-  spot_own r n p ni (inl e) (inl k) g = omega (arith, ap kind_of_law e)
-  spot_own r n p ni (inl e) (inr k) g = omega (arith, ap kind_of_law e)
-  spot_own r n p ni (inr (inl e)) (inl k) g = omega (arith, ap kind_of_law e)
-  spot_own r n p ni (inr (inl e)) (inr k) g = omega (arith, ap kind_of_law e)
+  spot_own : (r n : ℕ) (p : CfgPoint) → In n (region_of F r).nodes → Spot n p → (point_kind p ≡ 0) ⊎ (point_kind p ≡ 1) → Home r p → ⊥
+  unfolding point_kind
+  spot_own r n p ni (inl e) (inl k) g = omega (arith, ap point_kind e)
+  spot_own r n p ni (inl e) (inr k) g = omega (arith, ap point_kind e)
+  spot_own r n p ni (inr (inl e)) (inl k) g = omega (arith, ap point_kind e)
+  spot_own r n p ni (inr (inl e)) (inr k) g = omega (arith, ap point_kind e)
   spot_own r n p ni (inr (inr (c, d, ci, u, h))) k g = omega (arith, under_rank u, tr.rank_falls r n c ni ci, ap tr.rank (home_once h g))
 
   region_step_law : (w : ℕ → Place → Table) (spot : (c : ℕ) (q : Place) (p : CfgPoint) → In p (points (w c q)) → (d : ℕ) × Under c d × Home d p) (once : (c : ℕ) (q : Place) → NoDup (points (w c q)))
       (r : ℕ) (c : BlockLifting) → NoDup (region_entry r ∷ points (walk_nodes F w r (region_of F r).nodes ++ ((region_exit r, c) ∷ [])))
-  unfolding kind_of_law
+  unfolding point_kind
   region_step_law w spot once r c =
       let ns = (region_of F r).nodes in
       let N = walk_nodes F w r ns in
@@ -263,12 +263,12 @@ module _ (F : Func) (depth : ℕ) (tr : Tree F depth) where
       subst NoDup (sym e) (
         λ i. elim (in_split (points N) last i) [
           | inl a ↦ (let x = nodes_spot w spot r ns (region_entry r) a in spot_own r x.0 (region_entry r) x.1 x.2 (inl refl) home_entry)
-          | inr b ↦ elim (in_cases b) [ inl z ↦ (let o : ◌≡◌ {A = ℕ} 0 1 = ap kind_of_law z in omega arith) | inr z ↦ in_nil z ]
+          | inr b ↦ elim (in_cases b) [ inl z ↦ (let o : ◌≡◌ {A = ℕ} 0 1 = ap point_kind z in omega arith) | inr z ↦ in_nil z ]
         ],
         nodup_append (points N) last (nodes_nodup w spot once r ns (λ n i. i) (tr.nodes_once r)) (λ z. in_nil z, tt)
             (λ p a b. elim (in_cases b) [
               | inl z ↦ (let x = nodes_spot w spot r ns p a in
-                  spot_own r x.0 p x.1 x.2 (inr (ap kind_of_law z)) (subst (Home r) (sym z) home_exit))
+                  spot_own r x.0 p x.1 x.2 (inr (ap point_kind z)) (subst (Home r) (sym z) home_exit))
               | inr z ↦ in_nil z
             ]),
       )
