@@ -1,4 +1,4 @@
--- Refusals 3 to 7 and 13 in their order, as tests of the function slice's words: what the code computes. specs/Same says that it is the definition.
+-- Refusals 3 to 7 and 13 in their order, as tests of the function slice's words: what the code computes. proofs/Same proves that it is the definition.
 -- Assumes nothing.
 --     checks_test         the first refusal of 3 to 7 and 13
 --     ChecksSafe         what the code needs to stay within the slice

@@ -1,0 +1,2 @@
+-- No text has more lines than there is room for.
+pub mod Room
