@@ -10,6 +10,7 @@ use Rattle.std.proofs.Math.Seq.{take-append_seam, take_all, drop-length}
 use Rattle.lifting.specs.Bytes.{bytes}
 use Rattle.read_marks.specs.Cut.{percent_after, matched_after, cut_of, cut_more}
 use Rattle.read_cases.specs.Texts.{Lines, cut_text}
+use Rattle.read_cases.specs.Held.{cut_low}
 
 -- the bytes of a case, its line `%%` left off
 abbrev pub without_mark : List ℕ → List ℕ
@@ -29,25 +30,15 @@ abbrev pub cases_then : List ℕ → ℕ → List ℕ → List (List ℕ)
 cases_then kept m r = cond (eqb m 4) (without_mark kept ∷ cases_from [] 4 r) (cases_from kept m r)
 
 -- up to the end of a case
-abbrev Cut : List ℕ → ℕ → ℕ → List ℕ → List ℕ → Type 0
-Cut kept at m t r =
+abbrev CasesCut : List ℕ → ℕ → ℕ → List ℕ → List ℕ → Type 0
+CasesCut kept at m t r =
     let p = cut_of at m t in
     cases_from kept m (t ++ r) ≡ cases_then (kept ++ take (p.0 - at) t) p.1 (drop (p.0 - at) t ++ r)
 
-cut_low : (t : List ℕ) (at m : ℕ) → at ≤ (cut_of at m t).0
-unfolding cut_of
-cut_low [] at m = omega arith
-cut_low (b ∷ t) at m = go (cut_low t (at + 1) (matched_after m b)) (eqb (matched_after m b) 4)
-  where
-    go : at + 1 ≤ (cut_of (at + 1) (matched_after m b) t).0 → (q : Bool)
-        → at ≤ (elim q as (λ x. ℕ × ℕ) [ true ↦ (at + 1, 4) | false ↦ cut_of (at + 1) (matched_after m b) t ]).0
-    go ih true = omega arith
-    go ih false = omega arith
-
 -- by the byte, as the definition goes on
-cut_byte : (kept : List ℕ) (at m b : ℕ) (t r : List ℕ) → ((matched_after m b ≡ 4 → ⊥) → Cut (kept ++ b ∷ []) (at + 1) (matched_after m b) t r) → Cut kept at m (b ∷ t) r
+cases_cut_byte : (kept : List ℕ) (at m b : ℕ) (t r : List ℕ) → ((matched_after m b ≡ 4 → ⊥) → CasesCut (kept ++ b ∷ []) (at + 1) (matched_after m b) t r) → CasesCut kept at m (b ∷ t) r
 unfolding cases_from cut_of
-cut_byte kept at m b t r rest = go (eqb (matched_after m b) 4) refl
+cases_cut_byte kept at m b t r rest = go (eqb (matched_after m b) 4) refl
   where
     k : ℕ
     k = matched_after m b
@@ -59,7 +50,7 @@ cut_byte kept at m b t r rest = go (eqb (matched_after m b) 4) refl
     here : P true (at + 1, 4)
     here = let one : 1 ≡ at + 1 - at = omega arith in ap (λ (n : ℕ). without_mark (kept ++ take n (b ∷ t)) ∷ cases_from [] 4 (drop n (b ∷ t) ++ r)) one
 
-    on : Cut (kept ++ b ∷ []) (at + 1) k t r → P false (cut_of (at + 1) k t)
+    on : CasesCut (kept ++ b ∷ []) (at + 1) k t r → P false (cut_of (at + 1) k t)
     on ih =
         let p = cut_of (at + 1) k t in
         let low = cut_low t (at + 1) k in
@@ -72,18 +63,18 @@ cut_byte kept at m b t r rest = go (eqb (matched_after m b) 4) refl
     go true e = rw e here
     go false e = rw e (on (rest (eqb-false k 4 e)))
 
-cut_on : (t kept : List ℕ) (at m : ℕ) (r : List ℕ) → (m ≡ 4 → ⊥) → Cut kept at m t r
+cases_cut_on : (t kept : List ℕ) (at m : ℕ) (r : List ℕ) → (m ≡ 4 → ⊥) → CasesCut kept at m t r
 unfolding cut_of
-cut_on [] kept at m r other =
+cases_cut_on [] kept at m r other =
     let none : 0 ≡ at - at = omega arith in
     sym (ap (λ (q : Bool). cond q (without_mark (kept ++ []) ∷ cases_from [] 4 r) (cases_from (kept ++ []) m r)) (ne_eqb m 4 other)
     ∙ ap (λ (l : List ℕ). cases_from l m r) (append-nil kept))
     ∙ ap (λ (n : ℕ). cases_then (kept ++ take n []) m (drop n [] ++ r)) none
-cut_on (b ∷ t) kept at m r other = cut_byte kept at m b t r (cut_on t (kept ++ b ∷ []) (at + 1) (matched_after m b) r)
+cases_cut_on (b ∷ t) kept at m r other = cases_cut_byte kept at m b t r (cases_cut_on t (kept ++ b ∷ []) (at + 1) (matched_after m b) r)
 
-pub cases_cut : (t kept : List ℕ) (at m : ℕ) (r : List ℕ) → 0 < length t → Cut kept at m t r
+pub cases_cut : (t kept : List ℕ) (at m : ℕ) (r : List ℕ) → 0 < length t → CasesCut kept at m t r
 cases_cut [] kept at m r some = absurd (omega arith)
-cases_cut (b ∷ t) kept at m r some = cut_byte kept at m b t r (cut_on t (kept ++ b ∷ []) (at + 1) (matched_after m b) r)
+cases_cut (b ∷ t) kept at m r some = cases_cut_byte kept at m b t r (cases_cut_on t (kept ++ b ∷ []) (at + 1) (matched_after m b) r)
 
 -- a cut goes on by a byte at least
 pub cut_onward : (t : List ℕ) (at m : ℕ) → 0 < length t → at < (cut_of at m t).0

@@ -89,7 +89,7 @@ Cut at t s =
     let p = cut_of at s.matched t in
     held_after s t ≡ held_after (kept_with s (take (p.0 - at) t) p.1) (drop (p.0 - at) t)
 
-cut_low : (t : List ℕ) (at m : ℕ) → at ≤ (cut_of at m t).0
+pub cut_low : (t : List ℕ) (at m : ℕ) → at ≤ (cut_of at m t).0
 unfolding cut_of
 cut_low [] at m = omega arith
 cut_low (b ∷ t) at m = go (cut_low t (at + 1) (matched_after m b)) (eqb (matched_after m b) 4)
