@@ -43,8 +43,11 @@ returns-in-Line c = record { value = edge_as (func_of c.args.func.now) c.args.k 
 pub returns-in-Select : goal.returns-in-Select
 returns-in-Select c =
     let e = edge_case (func_of c.args.func.now) c.args.k c.requires.k_in_bounds c.in-Select.is in
-    record { value = c.region_start.ensures ∙ ap (λ (r : ℕ). point_number (region_entry r)) c.node_child.ensures ∙ sym e.1; upper_bound = omega
-          (arith, c.region_start.ensures, c.node_child.ensures, c.requires.known.walkable.named.few, c.requires.known.walkable.named.child c.in-Select.n 0 (fits_as c.requires.known c.in-Select.is) e.0) }
+    record {
+      value = c.region_start.ensures ∙ ap (λ (r : ℕ). point_number (region_entry r)) c.node_child.ensures ∙ sym e.1;
+      upper_bound = omega
+          (arith, c.region_start.ensures, c.node_child.ensures, c.requires.known.walkable.named.few, c.requires.known.walkable.named.child c.in-Select.n 0 (fits_as c.requires.known c.in-Select.is) e.0);
+    }
 
 pub returns-in-Loop : goal.returns-in-Loop
 returns-in-Loop c = record { value = edge_one (func_of c.args.func.now) c.args.k c.requires.k_in_bounds c.in-Loop.is refl c.region_start-in-Loop.ensures; upper_bound = omega (arith, c.region_start-in-Loop.ensures, low_region c.requires.known (fits_as c.requires.known c.in-Loop.is).1) }

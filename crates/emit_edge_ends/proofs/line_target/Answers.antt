@@ -25,8 +25,11 @@ pub returns-then-entry_count-eq0 : goal.returns-then-entry_count-eq0
 returns-then-entry_count-eq0 c =
     let l = (ctrl_line_of (func_of c.args.func.now) c.args.c).1 in
     let e = line_sole l c.args.k c.requires.k_in_bounds (sym c.entry_count.ensures ∙ c.if-entry_count-eq0.true) in
-    record { value = c.region_start.ensures ∙ ap (λ (r : ℕ). point_number (region_entry r)) c.target.ensures ∙ sym e.1; upper_bound = omega
-          (arith, c.region_start.ensures, c.target.ensures, c.requires.walkable.0.named.few, c.requires.walkable.0.named.target c.args.c 0 c.requires.c_in_bounds e.0) }
+    record {
+      value = c.region_start.ensures ∙ ap (λ (r : ℕ). point_number (region_entry r)) c.target.ensures ∙ sym e.1;
+      upper_bound = omega
+          (arith, c.region_start.ensures, c.target.ensures, c.requires.walkable.0.named.few, c.requires.walkable.0.named.target c.args.c 0 c.requires.c_in_bounds e.0);
+    }
 
 pub entry_region-requires : goal.entry_region-requires
 entry_region-requires c =
@@ -43,5 +46,8 @@ pub returns : goal.returns
 returns c =
     let l = (ctrl_line_of (func_of c.args.func.now) c.args.c).1 in
     let e = line_entry l c.args.k c.requires.k_in_bounds (λ e. c.if-entry_count-eq0.false (c.entry_count.ensures ∙ e)) in
-    record { value = c.region_start-2.ensures ∙ ap (λ (r : ℕ). point_number (region_entry r)) c.entry_region.ensures ∙ sym e.1; upper_bound = omega
-          (arith, c.region_start-2.ensures, c.entry_region.ensures, c.requires.walkable.0.named.few, c.requires.walkable.1.entry c.args.c c.args.k c.requires.c_in_bounds e.0) }
+    record {
+      value = c.region_start-2.ensures ∙ ap (λ (r : ℕ). point_number (region_entry r)) c.entry_region.ensures ∙ sym e.1;
+      upper_bound = omega
+          (arith, c.region_start-2.ensures, c.entry_region.ensures, c.requires.walkable.0.named.few, c.requires.walkable.1.entry c.args.c c.args.k c.requires.c_in_bounds e.0);
+    }

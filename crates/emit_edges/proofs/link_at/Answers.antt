@@ -16,14 +16,14 @@ term_kind-w-requires c = record { visited = c.requires.laid.walked (omega (arith
 pub link_term-requires : goal.link_term-requires
 link_term-requires c =
     let F = func_of c.args.func.now in
-        let v = c.requires.laid.walked (omega (arith, c.requires.i_lt_m.0)) in
-        let e = here_some F c.args.i c.block_ends.ensures c.if-block_ends.true c.term_kind-w.ensures in
+    let v = c.requires.laid.walked (omega (arith, c.requires.i_lt_m.0)) in
+    let e = here_some F c.args.i c.block_ends.ensures c.if-block_ends.true c.term_kind-w.ensures in
     record { known = record { tables = v.tables; walkable = v.walkable; fits = c.term_kind-w.ensures.fits }; aimed = c.requires.aimed; i_bound = omega (arith, c.requires.i_lt_m.0, c.requires.i_lt_m.1, c.requires.laid.few, c.requires.laid.size, here_count F c.args.i c.term_kind-w.result e) }
 
 pub returns-then-block_ends : goal.returns-then-block_ends
 returns-then-block_ends c =
     let F = func_of c.args.func.now in
-        let e = here_some F c.args.i c.block_ends.ensures
+    let e = here_some F c.args.i c.block_ends.ensures
     c.if-block_ends.true c.term_kind-w.ensures in
     record { work_after = c.link_term.ensures.work_after ∙ ap (λ (l : List Edge). link_all l c.args.e c.args.work.now) (sym e); value = omega (arith, c.link_term.ensures.value, here_count F c.args.i c.term_kind-w.result e); work_len_unchanged = c.link_term.ensures.work_len_unchanged }
 

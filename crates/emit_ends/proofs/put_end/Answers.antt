@@ -25,24 +25,31 @@ term_kind-w-requires c =
 pub put_merge-a-requires : goal.put_merge-a-requires
 put_merge-a-requires c =
     let F = func_of c.args.func.now in
-        let k = ready_visited c.requires.emit_ready c.args.i c.requires.i_lt_m in
-    record { emit_ready = c.requires.emit_ready; known = (
+    let k = ready_visited c.requires.emit_ready c.args.i c.requires.i_lt_m in
+    record {
+      emit_ready = c.requires.emit_ready;
+      known = (
         record { tables = k.tables; walkable = k.walkable; fits = c.term_kind-w.ensures.fits },
         subst (λ (g : Merge). All Small (merge_labels g)) (ap (λ (t : Terminator). t.merge) c.term_kind-w.ensures.is ∙ merge_of_law F c.term_kind-w.result) (merges_small k c.args.i c.requires.i_lt_m),
-      ) }
+      );
+    }
 
 pub put_term-requires : goal.put_term-requires
 put_term-requires c =
     let F = func_of c.args.func.now in
-        let k = ready_visited c.requires.emit_ready c.args.i c.requires.i_lt_m in
-    record { emit_ready = c.requires.emit_ready; m_nonzero = (omega (arith, c.requires.i_lt_m), record { tables = k.tables; walkable = k.walkable; fits = c.term_kind-w.ensures.fits }); all = (
-          subst (λ (t : Terminator). All Small t.targets) c.term_kind-w.ensures.is (targets_small k c.args.i c.requires.i_lt_m),
-          subst (λ (t : Terminator). All (Named F) t.ins) c.term_kind-w.ensures.is (ins_named F (refers F c.requires.emit_ready.stands.passes.references) k.walkable c.args.i (omega (arith, c.requires.i_lt_m, k.count))),
-        ) }
+    let k = ready_visited c.requires.emit_ready c.args.i c.requires.i_lt_m in
+    record {
+      emit_ready = c.requires.emit_ready;
+      m_nonzero = (omega (arith, c.requires.i_lt_m), record { tables = k.tables; walkable = k.walkable; fits = c.term_kind-w.ensures.fits });
+      all = (
+        subst (λ (t : Terminator). All Small t.targets) c.term_kind-w.ensures.is (targets_small k c.args.i c.requires.i_lt_m),
+        subst (λ (t : Terminator). All (Named F) t.ins) c.term_kind-w.ensures.is (ins_named F (refers F c.requires.emit_ready.stands.passes.references) k.walkable c.args.i (omega (arith, c.requires.i_lt_m, k.count))),
+      );
+    }
 
 pub returns : goal.returns
 returns c =
     let F = func_of c.args.func.now in
-        let k = ready_visited c.requires.emit_ready c.args.i c.requires.i_lt_m in
+    let k = ready_visited c.requires.emit_ready c.args.i c.requires.i_lt_m in
     put_same (put_more c.put_merge-a.ensures c.put_term.ensures)
     (ap₂ (λ (g : Merge) (t : Terminator). merge_in F c.args.first g ++ term_in F c.args.first t) (sym (ap (λ (t : Terminator). t.merge) c.term_kind-w.ensures.is ∙ merge_of_law F c.term_kind-w.result)) (sym c.term_kind-w.ensures.is))

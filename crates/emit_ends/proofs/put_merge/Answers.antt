@@ -52,5 +52,5 @@ returns c =
     let F = func_of c.args.func.now in
     let g = merge_of c.args.w in
     let T = walk_of F in
-        put_same (put_more (put_same c.put_front-b.ensures (front_same _ c.opcode-2.ensures refl refl refl (ap (short loop_control) c.merge_control-u.ensures))) (put_more c.put_merge_label-d.ensures c.put_merge_label-2.ensures))
+    put_same (put_more (put_same c.put_front-b.ensures (front_same _ c.opcode-2.ensures refl refl refl (ap (short loop_control) c.merge_control-u.ensures))) (put_more c.put_merge_label-d.ensures c.put_merge_label-2.ensures))
     (merge_two F c.args.first T (kept T) g (λ e. c.if-count-eq0.false (c.merges-count.ensures ∙ e)) (λ e. c.if-count-eq1.false (c.merges-count.ensures ∙ e)))

@@ -31,6 +31,6 @@ put_targets-requires c =
 pub returns : goal.returns
 returns c =
     let F = func_of c.args.func.now in
-        put_same (put_more c.put_front-a.ensures (put_more c.put_values-b.ensures c.put_targets.ensures))
+    put_same (put_more c.put_front-a.ensures (put_more c.put_values-b.ensures c.put_targets.ensures))
     (term_is F c.args.first (walk_of F) (kept (walk_of F)) (term_of F c.args.w) _ _ _ _ _ c.term_opcode.ensures c.term_attrs.ensures c.term_imms.ensures.is c.term_ins-ins.ensures.is
     (omega (arith, c.value_count.ensures.value, c.targets.ensures.value)))

@@ -15,14 +15,22 @@ all_ids-c-requires c = record { laid = (results_room c.requires.laid c.requires.
 
 pub all_ids-requires : goal.all_ids-requires
 all_ids-requires c =
-    record { laid = (labels_room c.requires.laid c.requires.first_le_highest_id (gives_first (func_of c.args.func.now) c.param_total-n.ensures c.give-a.ensures.value c.give-a.ensures.work_after) c.all_ids-b.ensures
-    c.all_ids-c.ensures).0; first_bound = (labels_room c.requires.laid c.requires.first_le_highest_id (gives_first (func_of c.args.func.now) c.param_total-n.ensures c.give-a.ensures.value c.give-a.ensures.work_after) c.all_ids-b.ensures
-    c.all_ids-c.ensures).1 }
+    record {
+      laid = (labels_room c.requires.laid c.requires.first_le_highest_id (gives_first (func_of c.args.func.now) c.param_total-n.ensures c.give-a.ensures.value c.give-a.ensures.work_after) c.all_ids-b.ensures
+          c.all_ids-c.ensures).0;
+      first_bound = (labels_room c.requires.laid c.requires.first_le_highest_id (gives_first (func_of c.args.func.now) c.param_total-n.ensures c.give-a.ensures.value c.give-a.ensures.work_after) c.all_ids-b.ensures
+          c.all_ids-c.ensures).1;
+    }
 
 pub returns : goal.returns
 returns c =
-    record { value = (number_done c.requires.laid c.requires.first_le_highest_id (gives_first (func_of c.args.func.now) c.param_total-n.ensures c.give-a.ensures.value c.give-a.ensures.work_after) c.all_ids-b.ensures
-    c.all_ids-c.ensures c.all_ids.ensures c.requires.ids_blank).0; ids = (number_done c.requires.laid c.requires.first_le_highest_id (gives_first (func_of c.args.func.now) c.param_total-n.ensures c.give-a.ensures.value c.give-a.ensures.work_after) c.all_ids-b.ensures
-    c.all_ids-c.ensures c.all_ids.ensures c.requires.ids_blank).1.0; aside = (number_done c.requires.laid c.requires.first_le_highest_id (gives_first (func_of c.args.func.now) c.param_total-n.ensures c.give-a.ensures.value c.give-a.ensures.work_after) c.all_ids-b.ensures
-    c.all_ids-c.ensures c.all_ids.ensures c.requires.ids_blank).1.1.0; work_len_unchanged = (number_done c.requires.laid c.requires.first_le_highest_id (gives_first (func_of c.args.func.now) c.param_total-n.ensures c.give-a.ensures.value c.give-a.ensures.work_after) c.all_ids-b.ensures
-    c.all_ids-c.ensures c.all_ids.ensures c.requires.ids_blank).1.1.1 }
+    record {
+      value = (number_done c.requires.laid c.requires.first_le_highest_id (gives_first (func_of c.args.func.now) c.param_total-n.ensures c.give-a.ensures.value c.give-a.ensures.work_after) c.all_ids-b.ensures
+          c.all_ids-c.ensures c.all_ids.ensures c.requires.ids_blank).0;
+      ids = (number_done c.requires.laid c.requires.first_le_highest_id (gives_first (func_of c.args.func.now) c.param_total-n.ensures c.give-a.ensures.value c.give-a.ensures.work_after) c.all_ids-b.ensures
+          c.all_ids-c.ensures c.all_ids.ensures c.requires.ids_blank).1.0;
+      aside = (number_done c.requires.laid c.requires.first_le_highest_id (gives_first (func_of c.args.func.now) c.param_total-n.ensures c.give-a.ensures.value c.give-a.ensures.work_after) c.all_ids-b.ensures
+          c.all_ids-c.ensures c.all_ids.ensures c.requires.ids_blank).1.1.0;
+      work_len_unchanged = (number_done c.requires.laid c.requires.first_le_highest_id (gives_first (func_of c.args.func.now) c.param_total-n.ensures c.give-a.ensures.value c.give-a.ensures.work_after) c.all_ids-b.ensures
+          c.all_ids-c.ensures c.all_ids.ensures c.requires.ids_blank).1.1.1;
+    }

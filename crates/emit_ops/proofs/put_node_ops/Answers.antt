@@ -31,11 +31,14 @@ pub put_op-d-requires : goal.put_op-d-requires
 put_op-d-requires c =
     let F = func_of c.args.func.now in
     let is = block_ops (node_of F c.args.n) in
-    record { emit_ready = c.requires.emit_ready; m_nonzero = (
+    record {
+      emit_ready = c.requires.emit_ready;
+      m_nonzero = (
         c.requires.m_nonzero.0,
         subst (λ (o : ℕ). o < length F.ops) (sym c.node_op.ensures)
             (node_ops_low F (refers F c.requires.emit_ready.stands.passes.references) c.args.n _ (in_get_or is c.loop-k.k 0 (omega (arith, c.node_op_count-count.ensures)))),
-      ) }
+      );
+    }
 
 pub loop-k-smaller : goal.loop-k-smaller
 loop-k-smaller c = omega arith

@@ -19,7 +19,7 @@ returns-then-counted-ne0 c =
     let F = func_of c.args.func.now in
     let n = length c.args.out.now in
     let L = list_of F c.args.first in
-        let g : n * 4 < 9223372036854775808 = c.well_formed.1.1.0.1 in
+    let g : n * 4 < 9223372036854775808 = c.well_formed.1.1.0.1 in
     record { gives = gives_values F c.args.first n c.args.out.now (missing_any F c.args.first c.requires.over.ready.stands.passes c.requires.first_value c.put_list-counted.ensures c.if-counted-ne0.true); wanted = wants_not Values 0 _ refl }
 
 pub returns-then-out-counted : goal.returns-then-out-counted
@@ -27,7 +27,7 @@ returns-then-out-counted c =
     let F = func_of c.args.func.now in
     let n = length c.args.out.now in
     let L = list_of F c.args.first in
-        let g : n * 4 < 9223372036854775808 = c.well_formed.1.1.0.1 in
+    let g : n * 4 < 9223372036854775808 = c.well_formed.1.1.0.1 in
     record { gives = gives_room F c.args.first n c.args.out.now (missing_none F c.args.first c.requires.over.ready.stands.passes c.requires.first_value c.put_list-counted.ensures c.if-counted-ne0.false) (sym (room_is L c.put_list-counted.ensures n (omega arith)) ∙ lt-leb _ n c.if-out-counted.true) _; wanted = λ z. count_is L c.put_list-counted.ensures (omega (arith, text_bound F c.args.first c.requires.over.ready.stands.passes.limits c.requires.over.ready.stands.passes.references c.requires.over.ready.stands.passes.tree c.requires.over.ready.stands.passes.counts c.requires.over.ready.stands.passes.control)) }
 
 pub returns : goal.returns
@@ -35,8 +35,8 @@ returns c =
     let F = func_of c.args.func.now in
     let n = length c.args.out.now in
     let L = list_of F c.args.first in
-        let g : n * 4 < 9223372036854775808 = c.well_formed.1.1.0.1 in
-        let l : c.put_list-counted.result.at ≤ n = omega arith in
+    let g : n * 4 < 9223372036854775808 = c.well_formed.1.1.0.1 in
+    let l : c.put_list-counted.result.at ≤ n = omega arith in
     let f = sym (room_is L c.put_list-counted.ensures n (omega arith)) ∙ le-leb _ n l in
     let w : length (words L) ≤ n = leb-true (length (words L)) n f in
     record { gives = gives_list F c.args.first n c.args.out.now (missing_none F c.args.first c.requires.over.ready.stands.passes c.requires.first_value c.put_list-counted.ensures c.if-counted-ne0.false) f (count_is L c.put_list-counted.ensures (omega arith)) c.requires.next_value (list_stands L c.put_list.ensures w); wanted = tt }

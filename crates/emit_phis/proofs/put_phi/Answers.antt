@@ -30,7 +30,7 @@ put_pairs-requires c = record { emit_ready = c.requires.emit_ready; linked = c.r
 pub returns : goal.returns
 returns c =
     let F = func_of c.args.func.now in
-        put_same (put_more c.put_front-a.ensures c.put_pairs.ensures)
+    put_same (put_more c.put_front-a.ensures c.put_pairs.ensures)
     (phi_runs F c.args.first c.args.i c.args.j c.opcode.ensures (ap (λ (x : Decl). x.attrs) c.phi_decl-decl.ensures) (ap (λ (x : Decl). x.type) c.phi_decl-decl.ensures)
     (c.id_of-result.ensures ∙ ap (id_in F c.args.first) c.phi_value.ensures)
     (ids_are c.requires.emit_ready c.args.i c.args.j c.requires.i_lt_m.0 c.requires.i_lt_m.1 c.requires.ids_value.0))

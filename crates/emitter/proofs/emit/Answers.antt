@@ -42,16 +42,20 @@ link-requires c = record { laid = laid_kept c.lay-m.ensures.laid (λ x l h. c.nu
 pub written-requires : goal.written-requires
 written-requires c =
     let F = func_of c.args.func.now in
-        let low = sym c.id_fits.ensures ∙ not-false _ c.if-not-id_fits.false-raw in
+    let low = sym c.id_fits.ensures ∙ not-false _ c.if-not-id_fits.false-raw in
     let held = ids_held F c.args.first (sym c.first_fits.ensures ∙ not-false _ c.if-not-first_fits.false-raw) low (fits_as c.number-next.ensures.value (sym c.next_fits.ensures ∙ not-false _ c.if-not-next_fits.false-raw)) in
-    record { over = record {
+    record {
+      over = record {
         ready = record { laid = c.link.ensures.laid_2; stands = c.requires.stands; ids = ids_kept c.number-next.ensures.ids (λ x l h. c.link.ensures.aside.before x h); low = leb-true c.args.first highest_id low };
         linked = c.link.ensures.linked;
-      }; first_value = held; next_value = c.number-next.ensures.value }
+      };
+      first_value = held;
+      next_value = c.number-next.ensures.value;
+    }
 
 pub returns : goal.returns
 returns c =
     let F = func_of c.args.func.now in
-        let low = sym c.id_fits.ensures ∙ not-false _ c.if-not-id_fits.false-raw in
+    let low = sym c.id_fits.ensures ∙ not-false _ c.if-not-id_fits.false-raw in
     let held = ids_held F c.args.first (sym c.first_fits.ensures ∙ not-false _ c.if-not-first_fits.false-raw) low (fits_as c.number-next.ensures.value (sym c.next_fits.ensures ∙ not-false _ c.if-not-next_fits.false-raw)) in
     record { gives = gives_same c.written.ensures.gives (sym (past_ids F c.args.first (length c.args.out.now) held)); work_len_unchanged = c.link.ensures.work_len_unchanged ∙ c.number-next.ensures.work_len_unchanged ∙ c.lay-m.ensures.work_len_unchanged; wanted = c.written.ensures.wanted }

@@ -30,5 +30,5 @@ pub returns-in-Function : goal.returns-in-Function
 returns-in-Function c =
     let j = subst (λ (x : Parsed). Judges x c.args.text.now (length c.args.func.now) (length c.args.work.now) (empty_pools c.args.func.now) c.judge-p.new.func) c.in-Function.is c.judge-p.ensures.judges in
     let e = parsed_judged c.args.text.now c.args.func.now (length c.args.work.now) c.requires.0 j in
-        let k = tabled c.args.text.now c.args.first (length c.args.func.now) (length c.args.work.now) (length c.args.out.now) (func_of c.judge-p.new.func) e in
+    let k = tabled c.args.text.now c.args.first (length c.args.func.now) (length c.args.work.now) (length c.args.out.now) (func_of c.judge-p.new.func) e in
     record { gives = gives_same c.emit.ensures.gives k; ends_clear = subst EndsClear k (clear_tables (func_of c.judge-p.new.func) c.args.first (length c.args.out.now)); func_len_unchanged = c.judge-p.ensures.func_len_unchanged; work_len_unchanged = c.emit.ensures.work_len_unchanged ∙ c.judge-p.ensures.work_len_unchanged; wanted = subst (λ (n : ℕ). Wants n c.emit.result) (wanted_tabled c.args.text.now c.args.first (length c.args.func.now) (length c.args.work.now) (length c.args.out.now) (func_of c.judge-p.new.func) e) c.emit.ensures.wanted }

@@ -25,8 +25,12 @@ pub returns-in-Function : goal.returns-in-Function
 unfolding blocks_bytes
 returns-in-Function c =
     let e = ap (λ (r : Parsed). answer_of r c.parse-r.new.func) (sym c.in-Function.is) ∙ c.parse-r.ensures.func_after in
-    record { put_bytes = put_bytes_same c.put_function.ensures.put_bytes (ap blocks_bytes e); func_after = c.parse-r.ensures.func_after_2; work_after = subst (λ (r : answer.Parsed). WorkAfter r c.args.work.now c.put_function.new.work) e
-            (subst (λ (z : List ℕ). LaidOut (func_of c.parse-r.new.func) (func_of c.parse-r.new.func).regions z c.put_function.new.work) (c.parse-r.ensures.work_after ∙ ap (λ (r : answer.Parsed). work_after r c.args.work.now) (sym e)) c.put_function.ensures.laid_out) }
+    record {
+      put_bytes = put_bytes_same c.put_function.ensures.put_bytes (ap blocks_bytes e);
+      func_after = c.parse-r.ensures.func_after_2;
+      work_after = subst (λ (r : answer.Parsed). WorkAfter r c.args.work.now c.put_function.new.work) e
+          (subst (λ (z : List ℕ). LaidOut (func_of c.parse-r.new.func) (func_of c.parse-r.new.func).regions z c.put_function.new.work) (c.parse-r.ensures.work_after ∙ ap (λ (r : answer.Parsed). work_after r c.args.work.now) (sym e)) c.put_function.ensures.laid_out);
+    }
 
 pub returns-in-Refused : goal.returns-in-Refused
 unfolding blocks_bytes

@@ -22,5 +22,5 @@ put_lines-requires c = shows_blocks c.blocks-m.ensures.visited c.blocks-m.ensure
 pub returns : goal.returns
 returns c =
     let F = func_of c.args.func.now in
-        let some : 0 < length F.regions = omega (arith, c.region_total.ensures, c.if-region_total-eq0.false) in
+    let some : 0 < length F.regions = omega (arith, c.region_total.ensures, c.if-region_total-eq0.false) in
     record { put_bytes = c.put_lines.ensures; laid_out = laid_some F c.args.work.now _ F.regions some c.blocks-m.ensures.block_words c.blocks-m.ensures.work_len_unchanged }

@@ -23,7 +23,7 @@ pub loop-i-preserved : goal.loop-i-preserved
 unfolding up_to
 loop-i-preserved c =
     let f = line_at (func_of c.args.func.now) in
-        (omega (arith, c.loop-i-test.true), put_bytes_same (put_bytes_more c.loop-i.invariant.1 c.put_position-at.ensures) (ap (up_to f) (sym (add-one c.loop-i.i))))
+    (omega (arith, c.loop-i-test.true), put_bytes_same (put_bytes_more c.loop-i.invariant.1 c.put_position-at.ensures) (ap (up_to f) (sym (add-one c.loop-i.i))))
 
 pub shape_of-out : goal.shape_of-out
 shape_of-out c = put_bytes_length c.loop-i.invariant.1
@@ -31,5 +31,5 @@ shape_of-out c = put_bytes_length c.loop-i.invariant.1
 pub returns : goal.returns
 returns c =
     let F = func_of c.args.func.now in
-        let all : c.loop-i.i ≡ length (walk_of F) = omega (arith, c.loop-i-test.false, c.requires.visited.count, c.loop-i.invariant.0) in
+    let all : c.loop-i.i ≡ length (walk_of F) = omega (arith, c.loop-i-test.false, c.requires.visited.count, c.loop-i.invariant.0) in
     put_bytes_same c.loop-i.invariant.1 (ap (up_to (line_at F)) all ∙ sym (lines_are F c.requires.visited.walkable.shaped))

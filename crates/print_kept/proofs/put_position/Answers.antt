@@ -22,7 +22,7 @@ returns-then-s-eq0 c =
 pub returns-then-absorbs : goal.returns-then-absorbs
 returns-then-absorbs c =
     let F = func_of c.args.func.now in
-                let e = (part_is F (points_small c.requires.shows.visited) c.args.i (omega (arith, c.requires.shows.visited.count, c.requires.i_lt_m)) c.status-s.result c.status-s.ensures c.if-s-eq0.false (absorbed F c.args.i) refl).0 in
+    let e = (part_is F (points_small c.requires.shows.visited) c.args.i (omega (arith, c.requires.shows.visited.count, c.requires.i_lt_m)) c.status-s.result c.status-s.ensures c.if-s-eq0.false (absorbed F c.args.i) refl).0 in
     let begin = begin_bytes F (absorbed F c.args.i) (point_at F c.args.i) in
     put_bytes_same c.put_begin-a.ensures
     (sym (append-nil begin)
@@ -32,13 +32,13 @@ returns-then-absorbs c =
 pub put_end-requires : goal.put_end-requires
 put_end-requires c =
     let F = func_of c.args.func.now in
-            let e = part_is F (points_small c.requires.shows.visited) c.args.i (omega (arith, c.requires.shows.visited.count, c.requires.i_lt_m)) c.status-s.result c.status-s.ensures c.if-s-eq0.false (absorbed F c.args.i) refl in
+    let e = part_is F (points_small c.requires.shows.visited) c.args.i (omega (arith, c.requires.shows.visited.count, c.requires.i_lt_m)) c.status-s.result c.status-s.ensures c.if-s-eq0.false (absorbed F c.args.i) refl in
     record { shows = c.requires.shows; h_bound = (e.1, c.requires.i_lt_m) }
 
 pub returns : goal.returns
 returns c =
     let F = func_of c.args.func.now in
-                let e = (part_is F (points_small c.requires.shows.visited) c.args.i (omega (arith, c.requires.shows.visited.count, c.requires.i_lt_m)) c.status-s.result c.status-s.ensures c.if-s-eq0.false (absorbed F c.args.i) refl).0 in
+    let e = (part_is F (points_small c.requires.shows.visited) c.args.i (omega (arith, c.requires.shows.visited.count, c.requires.i_lt_m)) c.status-s.result c.status-s.ensures c.if-s-eq0.false (absorbed F c.args.i) refl).0 in
     let begin = begin_bytes F (absorbed F c.args.i) (point_at F c.args.i) in
     put_bytes_same (put_bytes_more c.put_begin-a.ensures c.put_end.ensures)
     (ap (λ (b : Bool). begin ++ close_bytes F b (point_of (c.status-s.result - 1)) (visited_block F c.args.i).term) (sym c.if-absorbs.false ∙ c.absorbs.ensures) ∙ sym e)

@@ -16,7 +16,7 @@ pub returns : goal.returns
 unfolding start_bytes
 returns c =
     let F = func_of c.args.func.now in
-            let here =
+    let here =
     put_bytes_same c.put_point-b.ensures
     (ap (λ (x : ℕ). point_bytes (point_of x)) c.point.ensures.0 ∙ (by_number (point_at F c.args.i) (point_small c.requires.shows.visited c.args.i c.requires.i_lt_m)).same) in
     let run = put_bytes_same c.put_run.ensures (ap points_bytes (sym (chain_run F c.requires.shows.visited.walkable.shaped c.args.i (omega (arith, c.requires.shows.visited.count, c.requires.i_lt_m))))) in

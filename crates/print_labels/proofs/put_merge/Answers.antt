@@ -28,14 +28,14 @@ label-requires c =
 pub put_point-next-requires : goal.put_point-next-requires
 put_point-next-requires c =
     let t = (visited_block (func_of c.args.func.now) c.args.i).term in
-        let h : c.loop-k.k < length (merge_labels t.merge) = omega (arith, c.loop-k.invariant.0, c.loop-k-test.true) in
+    let h : c.loop-k.k < length (merge_labels t.merge) = omega (arith, c.loop-k.invariant.0, c.loop-k-test.true) in
     let e = c.label.ensures ∙ ap point_number (get_or-append (merge_labels t.merge) t.targets (region_entry 0) c.loop-k.k h) in
     omega (arith, e, (merge_small c.requires.shows.visited c.args.i c.requires.i_lt_m c.loop-k.k h).low)
 
 pub loop-k-preserved : goal.loop-k-preserved
 loop-k-preserved c =
     let t = (visited_block (func_of c.args.func.now) c.args.i).term in
-        let l = merge_labels t.merge in
+    let l = merge_labels t.merge in
     let h : c.loop-k.k < length l = omega (arith, c.loop-k.invariant.0, c.loop-k-test.true) in
     let e = c.label.ensures ∙ ap point_number (get_or-append l t.targets (region_entry 0) c.loop-k.k h) in
     let here =

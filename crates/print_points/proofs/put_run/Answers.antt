@@ -36,7 +36,7 @@ loop-more-smaller c = omega (arith, ltb-true, c.if-j-m.true-raw)
 pub loop-more-preserved : goal.loop-more-preserved
 loop-more-preserved c =
     let F = func_of c.args.func.now in
-            let low : c.loop-more.j < c.args.m = omega (arith, ltb-true, c.if-j-m.true-raw) in
+    let low : c.loop-more.j < c.args.m = omega (arith, ltb-true, c.if-j-m.true-raw) in
     let here =
     put_bytes_same c.put_point-next.ensures
     (ap (λ (x : ℕ). point_bytes (point_of x)) c.point.ensures.0 ∙ (by_number (point_at F c.loop-more.j) (point_small c.requires.shows.visited c.loop-more.j low)).same) in
@@ -52,7 +52,7 @@ shape_of-out-else-j-m c = put_bytes_length c.loop-more.invariant.1.put
 pub returns-else-j-m : goal.returns-else-j-m
 returns-else-j-m c =
     let F = func_of c.args.func.now in
-        part_done c.loop-more.invariant.1
+    part_done c.loop-more.invariant.1
     (ap (λ (t : Bool). points_bytes (cond t (run_at F c.loop-more.j) [])) c.loop-more-test.true
     ∙ ap points_bytes (run_end (use_count (walk_of F)) (walk_of F) c.loop-more.j (omega (arith, ltb-false, c.if-j-m.false-raw, c.requires.shows.visited.count))))
 
