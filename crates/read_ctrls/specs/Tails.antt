@@ -33,7 +33,7 @@ ctrl_head_form = before (bytes "(ctrl") refl (seq field (seq field control_head)
 unfoldable pub ctrl_head : Codec CtrlHead
 ctrl_head = same ctrl_head_form (λ x. record { region = x.0; attrs = x.1.0; kind = x.1.1 }) (λ h. (h.region, (h.attrs, h.kind))) (λ h. refl) (λ x. refl)
 
-ctrl_head_inverse : Inverse ctrl_head
+pub ctrl_head_inverse : Inverse ctrl_head
 unfolding ctrl_head ctrl_head_form
 ctrl_head_inverse =
     same_inverse (before_inverse (bytes "(ctrl") refl (seq_inverse field_inverse (seq_inverse field_inverse control_head_inverse)))
@@ -58,10 +58,10 @@ abbrev pub ctrl_tail : CtrlHead → List ℕ → Reading (ℕ × ControlInst)
 ctrl_tail h u = then (ctrl_rest h.kind u) (λ x. then (edges_form.read x.1) (λ y. some (to_ctrl h x.0 y.0, y.1)))
 
 -- the fields of a line
-abbrev Forms : Type 0
+abbrev pub Forms : Type 0
 Forms = List Value × (List ℕ × List (ℕ × List Value))
 
-abbrev rest_forms : Codec Forms
+abbrev pub rest_forms : Codec Forms
 rest_forms = seq (sub "ins" values_codec) (seq (sub "to" numbers_codec) edges_form)
 
 fields_are : (t : List ℕ) → (ended_by (closed (seq field (seq field (seq kind (seq (sub "ins" values_codec) (seq (sub "to" numbers_codec) (sub "vals" entries_codec)))))))).read t

@@ -27,7 +27,7 @@ use Rattle.read_insts.specs.declared.Control.TheVariants as ctrl
 unfoldable pub inst_head : Codec ℕ
 inst_head = sub "inst" field
 
-inst_head_inverse : Inverse inst_head
+pub inst_head_inverse : Inverse inst_head
 unfolding inst_head
 inst_head_inverse = sub_inverse "inst" field_inverse
 
@@ -66,7 +66,7 @@ op_kind_head_form = alt (alt inst_head (sub "call" one_codec) (λ b r. refl)) (s
 unfoldable pub op_kind_head : Codec OpKind
 op_kind_head = same op_kind_head_form to_op_kind of_op_kind op_kind_to_of op_kind_of_to
 
-op_kind_head_inverse : Inverse op_kind_head
+pub op_kind_head_inverse : Inverse op_kind_head
 unfolding op_kind_head op_kind_head_form inst_head sub before lit seq same view_as alt strip
 op_kind_head_inverse =
     same_inverse (alt_inverse (alt_inverse inst_head_inverse (sub_inverse "call" one_codec_inverse) (λ b r. refl)) (sub_inverse "ext" two_inverse) (λ b r. refl))
@@ -165,7 +165,7 @@ selection_head_form = alt (keyword "bool") inst_head (λ b r. refl)
 unfoldable pub selection_head : Codec Selection
 selection_head = same selection_head_form to_selection of_selection selection_to_of selection_of_to
 
-selection_head_inverse : Inverse selection_head
+pub selection_head_inverse : Inverse selection_head
 unfolding selection_head selection_head_form inst_head keyword sub before lit seq same view_as strip
 selection_head_inverse =
     same_inverse (alt_inverse (keyword_inverse "bool") inst_head_inverse (λ b r. refl)) to_selection of_selection selection_to_of selection_of_to
@@ -223,7 +223,7 @@ unfoldable pub words : Codec ((Unit {0} ⊎ Unit {0}) ⊎ Unit {0})
 unfolding keyword lit alt strip
 words = alt (alt (keyword "unreachable") (keyword "return") (λ b r. refl)) (keyword "branch") (λ b r. refl)
 
-words_inverse : Inverse words
+pub words_inverse : Inverse words
 unfolding words keyword lit alt strip
 words_inverse =
     alt_inverse (alt_inverse (keyword_inverse "unreachable") (keyword_inverse "return") (λ b r. refl)) (keyword_inverse "branch") (λ b r. refl)
@@ -232,7 +232,7 @@ unfoldable pub plain_head : Codec PlainHead
 unfolding words inst_head keyword sub before lit seq same view_as alt strip
 plain_head = alt words (sub "exit" inst_head) (λ b r. refl)
 
-plain_head_inverse : Inverse plain_head
+pub plain_head_inverse : Inverse plain_head
 unfolding plain_head words inst_head keyword sub before lit seq same view_as alt strip
 plain_head_inverse = alt_inverse words_inverse (sub_inverse "exit" inst_head_inverse) (λ b r. refl)
 

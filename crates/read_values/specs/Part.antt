@@ -26,13 +26,13 @@ value_parts =
 unfoldable pub value_part : Whole ValueForm
 value_part = same (seq value_parts end) (λ x. x.0) (λ v. (v, tt)) (λ v. refl) (λ x. refl)
 
-value_parts_inverse : Inverse value_parts
+pub value_parts_inverse : Inverse value_parts
 unfolding value_parts before lit seq same view_as alt strip
 value_parts_inverse =
     alt_inverse (alt_inverse (alt_inverse (before_inverse (bytes "c") refl field_inverse) (before_inverse (bytes "r") refl (seq_inverse field_inverse field_inverse)) (λ b r. refl)) (before_inverse (bytes "n") refl (seq_inverse field_inverse field_inverse)) (λ b r. refl))
     (before_inverse (bytes "d") refl field_inverse) (λ b r. refl)
 
-value_part_inverse : Inverse value_part
+pub value_part_inverse : Inverse value_part
 unfolding value_part
 value_part_inverse = same_inverse (seq_inverse value_parts_inverse end_inverse) (λ x. x.0) (λ v. (v, tt)) (λ v. refl) (λ x. refl)
 
@@ -55,7 +55,7 @@ plain_part (inr i) = plain_one 100 i (refl, refl, tt)
 unfoldable pub value_by_part : Codec ValueForm
 value_by_part = formed_by (bytes " (") refl value_part plain_part
 
-value_by_part_inverse : Inverse value_by_part
+pub value_by_part_inverse : Inverse value_by_part
 unfolding value_by_part
 value_by_part_inverse = formed_by_inverse (bytes " (") refl value_part plain_part value_part_inverse
 

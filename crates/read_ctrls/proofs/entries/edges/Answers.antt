@@ -20,14 +20,14 @@ pub returns-in_default-entry_list : goal.returns-in_default-entry_list
 unfolding edges_form
 returns-in_default-entry_list c =
     let p = by_answer step_of c.in-On.is c.word.ensures in
-        let s = edges_met c.entry_list.new.func c.entry_list.new.work c.in_default-entry_list.is c.entry_list.ensures.stores in
+    let s = edges_met c.entry_list.new.func c.entry_list.new.work c.in_default-entry_list.is c.entry_list.ensures.stores in
     record { stores = last_refused (sub "vals" entries_codec) (as_sub "vals" entries_codec (behind_took _ _ p s)); func_len_unchanged = search rules; work_len_unchanged = search rules }
 
 pub returns-in_default-word : goal.returns-in_default-word
 unfolding edges_form
 returns-in_default-word c =
     let p = by_answer step_of c.in-On.is c.word.ensures in
-        let s = edges_met c.entry_list.new.func c.entry_list.new.work c.in-Read.is c.entry_list.ensures.stores in
+    let s = edges_met c.entry_list.new.func c.entry_list.new.work c.in-Read.is c.entry_list.ensures.stores in
     let q = by_answer step_of c.in_default-word.is c.word-2.ensures in
     record { stores = stores_not (last_stored (sub "vals" entries_codec) (as_sub "vals" entries_codec (behind_took _ _ p s)) q); func_len_unchanged = search rules; work_len_unchanged = search rules }
 
@@ -35,6 +35,6 @@ pub returns : goal.returns
 unfolding edges_form
 returns c =
     let p = by_answer step_of c.in-On.is c.word.ensures in
-        let s = edges_met c.entry_list.new.func c.entry_list.new.work c.in-Read.is c.entry_list.ensures.stores in
+    let s = edges_met c.entry_list.new.func c.entry_list.new.work c.in-Read.is c.entry_list.ensures.stores in
     let q = by_answer step_of c.in-On-word.is c.word-2.ensures in
     record { stores = last_stored (sub "vals" entries_codec) (as_sub "vals" entries_codec (behind_took _ _ p s)) q; func_len_unchanged = search rules; work_len_unchanged = search rules }

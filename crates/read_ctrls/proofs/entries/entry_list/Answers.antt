@@ -19,7 +19,7 @@ returns-in-On c = record { stores = along_end entries_listing c.loop-d.invariant
 pub returns-in_default-entry : goal.returns-in_default-entry
 returns-in_default-entry c =
     let unclosed = by_answer step_of c.in_default.is c.close.ensures in
-        let s = edges_met c.entry.new.func c.entry.new.work c.in_default-entry.is c.entry.ensures.stores in
+    let s = edges_met c.entry.new.func c.entry.new.work c.in_default-entry.is c.entry.ensures.stores in
     record { stores = along_wrong entries_listing c.loop-d.invariant.0 unclosed s; func_len_unchanged = c.entry.ensures.func_len_unchanged ∙ c.loop-d.invariant.0.len; work_len_unchanged = c.entry.ensures.work_len_unchanged ∙ c.loop-d.invariant.1 }
 
 pub loop-d-smaller : goal.loop-d-smaller

@@ -17,7 +17,7 @@ returns-in_default c =
 pub returns-in_default-edges : goal.returns-in_default-edges
 returns-in_default-edges c =
     let s = met c.in-On.is c.lists.ensures.stores in
-        let t = edges_met c.edges.new.func c.edges.new.work c.in_default-edges.is c.edges.ensures.stores in
+    let t = edges_met c.edges.new.func c.edges.new.work c.in_default-edges.is c.edges.ensures.stores in
     record { stores = line_unended c.args.head (c.args.seen.line + 1) s t; func_len_unchanged = c.edges.ensures.func_len_unchanged ∙ c.lists.ensures.func_len_unchanged; work_len_unchanged = c.edges.ensures.work_len_unchanged }
 
 pub line_end-requires : goal.line_end-requires
@@ -29,5 +29,5 @@ shape_of-func c = c.line_end.ensures.func_len_unchanged ∙ c.edges.ensures.func
 pub returns : goal.returns
 returns c =
     let s = met c.in-On.is c.lists.ensures.stores in
-        let t = edges_met c.edges.new.func c.edges.new.work c.in-Read.is c.edges.ensures.stores in
+    let t = edges_met c.edges.new.func c.edges.new.work c.in-Read.is c.edges.ensures.stores in
     record { stores = line_stored c.args.head (c.args.seen.line + 1) s t refl c.begin-start.ensures c.begin-end.ensures c.line_end.ensures.value c.line_end.ensures.func_after; func_len_unchanged = c.line_end.ensures.func_len_unchanged ∙ c.edges.ensures.func_len_unchanged ∙ c.lists.ensures.func_len_unchanged; work_len_unchanged = c.edges.ensures.work_len_unchanged }

@@ -28,17 +28,17 @@ ctrl_line-requires c =
 pub returns-in_default-ctrl_line : goal.returns-in_default-ctrl_line
 returns-in_default-ctrl_line c =
     let q = by_answer head_answer c.in-Read.is c.head.ensures in
-        let s = line_met c.ctrl_line.new.func c.ctrl_line.new.work c.in_default-ctrl_line.is c.ctrl_line.ensures.stores in
+    let s = line_met c.ctrl_line.new.func c.ctrl_line.new.work c.in_default-ctrl_line.is c.ctrl_line.ensures.stores in
     record { lines_are = going_wrong ctrl_line_kind c.loop-h.invariant.0 q s; func_len_unchanged = c.ctrl_line.ensures.func_len_unchanged ∙ c.loop-h.invariant.0.len; work_len_unchanged = c.ctrl_line.ensures.work_len_unchanged ∙ c.loop-h.invariant.1 }
 
 pub loop-h-smaller : goal.loop-h-smaller
 loop-h-smaller c =
     let q = by_answer head_answer c.in-Read.is c.head.ensures in
-        let s = line_met c.ctrl_line.new.func c.ctrl_line.new.work c.in-Read-ctrl_line.is c.ctrl_line.ensures.stores in
+    let s = line_met c.ctrl_line.new.func c.ctrl_line.new.work c.in-Read-ctrl_line.is c.ctrl_line.ensures.stores in
     omega (arith, q.moves.moved, s.moves.moved, s.moves.fits)
 
 pub loop-h-preserved : goal.loop-h-preserved
 loop-h-preserved c =
     let q = by_answer head_answer c.in-Read.is c.head.ensures in
-        let s = line_met c.ctrl_line.new.func c.ctrl_line.new.work c.in-Read-ctrl_line.is c.ctrl_line.ensures.stores in
+    let s = line_met c.ctrl_line.new.func c.ctrl_line.new.work c.in-Read-ctrl_line.is c.ctrl_line.ensures.stores in
     (going_more ctrl_line_kind c.loop-h.invariant.0 q s c.ctrl_line.ensures.func_len_unchanged, c.ctrl_line.ensures.work_len_unchanged ∙ c.loop-h.invariant.1, omega (arith, c.loop-h.invariant.2, line_number s, q.moves.moved, s.moves.moved))

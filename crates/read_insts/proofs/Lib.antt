@@ -1,0 +1,2 @@
+-- The laws of the heads' formats.
+pub mod Formats

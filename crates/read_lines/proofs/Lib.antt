@@ -1,0 +1,2 @@
+-- The laws of the lines' formats.
+pub mod Formats
