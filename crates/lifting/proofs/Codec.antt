@@ -11,7 +11,7 @@ use Rattle.std.proofs.Math.Option.{none, some, some-injective}
 use Rattle.std.proofs.Math.ListN.{length}
 use Rattle.lifting.specs.Digits.{digit, digits, Reading, number, digit_next, Stop}
 use Rattle.lifting.specs.Codec.{Ending, Found, Format, Codec, then, then_some, then_then, strip, strip_sound, strip_full, Led, lit, num, both_of, second, seq, up, view_as, same}
-use Rattle.lifting.specs.Codec.{right, OkAlt, print_alt, read_alt, alt, onto, over, OkMany, print_many, step_many, read_many, stop_many, many, list}
+use Rattle.lifting.specs.Codec.{right, OkAlt, print_alt, read_alt, alt, onto, over, OkMany, print_many, step_many, read_many, stop_many, many, listed, list}
 use Rattle.lifting.proofs.Digits.{number_sound, number_full}
 
 -- What is read is what stands there, printed; and what is printed is read.
@@ -141,7 +141,7 @@ module _ {E : Ending} {A B : Type 0} {C : Codec A} (c : Inverse C) where
             subst (Are t) (some-injective _ x q.2)
             (rw (append_assoc, ← g.0) f.0, ((f.1, g.1.0), g.1.1))
 
-    many_length : (xs : List A) (b : B) → length xs ≤ length (print_many C D xs b)
+    pub many_length : (xs : List A) (b : B) → length xs ≤ length (print_many C D xs b)
     many_length [] b = omega arith
     many_length (a ∷ xs) b = omega (arith, many_length xs b, length-append (C.print a) (print_many C D xs b), codec_length C a)
 
@@ -201,9 +201,13 @@ module _ {E : Ending} {A B : Type 0} {C : Codec A} (c : Inverse C) where
         rw (e, read_many) (ap (λ (o : Found E (List A × B)). then o (onto a)) (fuel_alike t u u (le_of_suc-le-suc l) (omega arith)))
 
 module _ {A : Type 0} {C : Codec A} (c : Inverse C) (s : List ℕ) (h : Led s) (apart : (r : List ℕ) → C.read (s ++ r) ≡ none) where
+  pub listed_inverse : Inverse (listed C s h apart)
+  unfolding lit
+  listed_inverse = many_inverse c (lit_inverse s h) (λ u r. apart r)
+
   pub list_inverse : Inverse (list C s h apart)
   unfolding list lit
-  list_inverse = same_inverse (many_inverse c (lit_inverse s h) (λ u r. apart r)) (λ x. x.0) (λ xs. (xs, tt)) (λ xs. refl) (λ x. refl)
+  list_inverse = same_inverse listed_inverse (λ x. x.0) (λ xs. (xs, tt)) (λ xs. refl) (λ x. refl)
 
   -- how a list is read, one at a time
   pub list_more : (t : List ℕ) (a : A) (u : List ℕ) → C.read t ≡ some (a, u) → (list C s h apart).read t ≡ then ((list C s h apart).read u) (λ x. some (a ∷ x.0, x.1))

@@ -261,6 +261,10 @@ text_inverse =
       refl,
     ))
 
+pub opened_inverse : Inverse opened
+unfolding opened
+opened_inverse = text_inverse
+
 -- what is read is the printed text of a function that fits, and the text of every function that fits is read
 pub print_of_read : (t : List ℕ) (f : Func) → read t ≡ some f → (t ≡ print f) × Fits f
 unfolding print read opened text view_as

@@ -31,14 +31,14 @@ inst_line =
     (λ x. record { opcode = x.0; attrs = x.1.0; type = x.1.1.0; result = x.1.1.1.0; imms = x.1.1.1.1.0; ids = x.1.1.1.1.1 })
     (λ i. (i.opcode, (i.attrs, (i.type, (i.result, (i.imms, i.ids)))))) (λ i. refl) (λ x. refl)
 
-inst_form_inverse : Inverse instruction_form
+pub inst_form_inverse : Inverse instruction_form
 unfolding instruction_form
 inst_form_inverse =
     after_word_inverse
     (closed_inverse (seq_inverse open1_inverse (seq_inverse field_inverse (seq_inverse field_inverse (seq_inverse field_inverse (seq_inverse (sub_inverse "imms" imms_codec_inverse) (sub_inverse "ids" numbers_codec_inverse)))))))
     (bytes "\n") refl
 
-inst_line_inverse : Inverse inst_line
+pub inst_line_inverse : Inverse inst_line
 unfolding inst_line
 inst_line_inverse =
     same_inverse inst_form_inverse
@@ -54,7 +54,7 @@ unfoldable pub listing : Whole (List Instruction × Unit {0})
 unfolding end inst_line instruction_form closed after_word open1 lit num seq same view_as strip
 listing = many inst_line end (λ u r. refl)
 
-listing_inverse : Inverse listing
+pub listing_inverse : Inverse listing
 unfolding listing end inst_line instruction_form closed after_word open1 lit num seq same view_as strip
 listing_inverse = many_inverse inst_line_inverse end_inverse (λ u r. refl)
 

@@ -61,7 +61,7 @@ line_length : (n : ℕ) → length (first_line_form.print n) ≤ longest_line
 unfolding first_line_form line one_codec field closed before after_word lit num seq same view_as
 line_length n = simp length-append (omega (arith, digits_length n))
 
-first_line_inverse : Inverse first_line_form
+pub first_line_inverse : Inverse first_line_form
 unfolding first_line_form
 first_line_inverse = line_inverse "first" one_codec_inverse
 
