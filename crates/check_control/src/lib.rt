@@ -2,7 +2,6 @@
 // compared with its other entries and its targets. The roots come from the walk.
 #![tactic(auto)]
 
-
 ghost use Rattle.std.specs.Prelude.{◌≡◌, ◌≤◌, ◌<◌, length, drop};
 ghost use Rattle.general_laws.specs.Lists.{every, within, distinct, keys};
 ghost use Rattle.lifting.specs.Parts.{child_list};

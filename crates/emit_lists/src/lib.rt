@@ -2,7 +2,6 @@
 // all lists of values; and what moves into phis.
 #![tactic(auto)]
 
-
 // A list of values: none; the operands of an op; the inputs of a ctrl line; the values of a node, an exit or a select; a loop's condition
 // alone; the outputs of a region.
 #[derive(Clone, Copy)]

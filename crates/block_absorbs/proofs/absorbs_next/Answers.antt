@@ -8,8 +8,12 @@ returns-then-i-m c = absorb_end c.requires.visited c.args.i c.requires.i_lt_m c.
 
 pub joins-requires : goal.joins-requires
 joins-requires c =
-    record { visited = c.requires.visited; counted = c.requires.counted; k_lt_m = next_low c.requires.visited c.args.i c.requires.i_lt_m c.if-i-m.false
-            c.sole_target-s.ensures }
+    record {
+      visited = c.requires.visited;
+      counted = c.requires.counted;
+      k_lt_m = next_low c.requires.visited c.args.i c.requires.i_lt_m c.if-i-m.false
+          c.sole_target-s.ensures;
+    }
 
 pub returns-in-To : goal.returns-in-To
 returns-in-To c =

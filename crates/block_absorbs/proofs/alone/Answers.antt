@@ -21,5 +21,8 @@ overflow_add-result c = omega (arith, number_small c.requires.visited c.requires
 
 pub returns : goal.returns
 returns c =
-    record { value = alone_used c.requires.visited c.requires.counted c.args.i c.requires.i_lt_m c.number-q.ensures c.if-work-q-eq0.false; upper_bound = omega
-          (arith, number_small c.requires.visited c.requires.counted c.args.i c.requires.i_lt_m c.number-q.ensures) }
+    record {
+      value = alone_used c.requires.visited c.requires.counted c.args.i c.requires.i_lt_m c.number-q.ensures c.if-work-q-eq0.false;
+      upper_bound = omega
+          (arith, number_small c.requires.visited c.requires.counted c.args.i c.requires.i_lt_m c.number-q.ensures);
+    }

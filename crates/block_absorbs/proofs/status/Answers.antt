@@ -12,10 +12,16 @@ overflow_sub-i c = joined_some c.args.func.now c.args.i c.requires.i_lt_m.1 c.if
 
 pub returns-then-joined : goal.returns-then-joined
 returns-then-joined c =
-    record { value = c.wide.ensures ∙ status_before c.args.func.now c.args.i c.requires.absorb_words c.requires.i_lt_m.1 c.if-joined.true; upper_bound = omega
-          (arith, c.wide.ensures, c.shared_slice_known-then-joined-1.given (statuses_at + (c.args.i - 1))) }
+    record {
+      value = c.wide.ensures ∙ status_before c.args.func.now c.args.i c.requires.absorb_words c.requires.i_lt_m.1 c.if-joined.true;
+      upper_bound = omega
+          (arith, c.wide.ensures, c.shared_slice_known-then-joined-1.given (statuses_at + (c.args.i - 1)));
+    }
 
 pub returns : goal.returns
 returns c =
-    record { value = status_new c.args.func.now c.args.i c.requires.i_lt_m.1 c.if-joined.false c.alone.ensures.value; upper_bound = omega
-          (arith, c.alone.ensures.upper_bound) }
+    record {
+      value = status_new c.args.func.now c.args.i c.requires.i_lt_m.1 c.if-joined.false c.alone.ensures.value;
+      upper_bound = omega
+          (arith, c.alone.ensures.upper_bound);
+    }

@@ -13,8 +13,11 @@ bump-requires c = record { q_bound = omega (arith, c.requires.size, c.clear.ensu
 
 pub count_all-requires : goal.count_all-requires
 count_all-requires c =
-    record { visited = visited_aside (visited_aside c.requires c.clear.ensures.cleared.aside c.clear.ensures.work_len_unchanged) (first_aside _ c.bump.ensures.work_after) c.bump.ensures.work_len_unchanged; tallied = first_tallied c.args.func.now c.requires.walkable
-          (tally_cleared c.clear.ensures.cleared) (omega (arith, c.requires.size, c.clear.ensures.work_len_unchanged)) c.bump.ensures.work_after }
+    record {
+      visited = visited_aside (visited_aside c.requires c.clear.ensures.cleared.aside c.clear.ensures.work_len_unchanged) (first_aside _ c.bump.ensures.work_after) c.bump.ensures.work_len_unchanged;
+      tallied = first_tallied c.args.func.now c.requires.walkable
+          (tally_cleared c.clear.ensures.cleared) (omega (arith, c.requires.size, c.clear.ensures.work_len_unchanged)) c.bump.ensures.work_after;
+    }
 
 pub returns : goal.returns
 returns c =

@@ -31,8 +31,12 @@ bounds-marks-k c = omega arith
 pub met-requires : goal.met-requires
 met-requires c =
     let x : c.wide-k.result ≡ get_or (const_ids c.args.func.now) (c.loop-i.i - 1) 0 = c.wide-k.ensures ∙ c.row_const_id.ensures ∙ id_at c.args.func.now (c.loop-i.i - 1) in
-    record { limits_ready = c.requires; i_bound = omega (arith, c.loop-i.invariant.0); func_value = λ e.
-            unmarked 2039 (const_ids c.args.func.now) (c.loop-i.i - 1) c.loop-i.i (get_or (const_ids c.args.func.now) (c.loop-i.i - 1) 0) c.loop-i.marks (omega arith) c.loop-i.invariant.3 (ap (λ (y : ℕ). get_or c.loop-i.marks (y % 2039) false) (sym x) ∙ e) }
+    record {
+      limits_ready = c.requires;
+      i_bound = omega (arith, c.loop-i.invariant.0);
+      func_value = λ e.
+          unmarked 2039 (const_ids c.args.func.now) (c.loop-i.i - 1) c.loop-i.i (get_or (const_ids c.args.func.now) (c.loop-i.i - 1) 0) c.loop-i.marks (omega arith) c.loop-i.invariant.3 (ap (λ (y : ℕ). get_or c.loop-i.marks (y % 2039) false) (sym x) ∙ e);
+    }
 
 pub returns-then-met : goal.returns-then-met
 unfolding distinct_test

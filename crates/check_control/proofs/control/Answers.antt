@@ -21,20 +21,18 @@ pub lines_fit-requires : goal.lines_fit-requires
 lines_fit-requires c = record { tables = c.requires.tables; regions_named = c.requires.regions_named; regions_marked = (c.mark_nodes.ensures.regions_marked, omega (arith, c.mark_nodes.ensures.work_len_unchanged, c.index.ensures.work_len_unchanged, c.requires.work_need_in_bounds)) }
 
 pub returns-then-not-lines_fit : goal.returns-then-not-lines_fit
-returns-then-not-lines_fit c =
-    (
-      sym (control_line (func_of c.args.func.now) (sym c.index.ensures.value ∙ not-false c.index.result c.if-not-index.false-raw) (sym c.lines_fit.ensures ∙ not-true c.lines_fit.result c.if-not-lines_fit.true-raw)),
-      c.mark_nodes.ensures.work_len_unchanged ∙ c.index.ensures.work_len_unchanged,
-      aside_more c.index.ensures.aside (aside_wider c.mark_nodes.ensures.aside (lit≤ tt) (lit≤ tt)),
-    )
+returns-then-not-lines_fit c = (
+  sym (control_line (func_of c.args.func.now) (sym c.index.ensures.value ∙ not-false c.index.result c.if-not-index.false-raw) (sym c.lines_fit.ensures ∙ not-true c.lines_fit.result c.if-not-lines_fit.true-raw)),
+  c.mark_nodes.ensures.work_len_unchanged ∙ c.index.ensures.work_len_unchanged,
+  aside_more c.index.ensures.aside (aside_wider c.mark_nodes.ensures.aside (lit≤ tt) (lit≤ tt)),
+)
 
 pub returns-then-ctrl_total-eq0 : goal.returns-then-ctrl_total-eq0
-returns-then-ctrl_total-eq0 c =
-    (
-      sym (control_none (func_of c.args.func.now) (sym c.index.ensures.value ∙ not-false c.index.result c.if-not-index.false-raw) (sym c.lines_fit.ensures ∙ not-false c.lines_fit.result c.if-not-lines_fit.false-raw) (sym c.ctrl_total.ensures ∙ c.if-ctrl_total-eq0.true)),
-      c.mark_nodes.ensures.work_len_unchanged ∙ c.index.ensures.work_len_unchanged,
-      aside_more c.index.ensures.aside (aside_wider c.mark_nodes.ensures.aside (lit≤ tt) (lit≤ tt)),
-    )
+returns-then-ctrl_total-eq0 c = (
+  sym (control_none (func_of c.args.func.now) (sym c.index.ensures.value ∙ not-false c.index.result c.if-not-index.false-raw) (sym c.lines_fit.ensures ∙ not-false c.lines_fit.result c.if-not-lines_fit.false-raw) (sym c.ctrl_total.ensures ∙ c.if-ctrl_total-eq0.true)),
+  c.mark_nodes.ensures.work_len_unchanged ∙ c.index.ensures.work_len_unchanged,
+  aside_more c.index.ensures.aside (aside_wider c.mark_nodes.ensures.aside (lit≤ tt) (lit≤ tt)),
+)
 
 -- where there is a ctrl line, there is a region
 pub order-n-requires : goal.order-n-requires
@@ -47,8 +45,7 @@ have_ctrls-requires c = record { indexed = c.order-n.ensures.indexed_2; roots_lo
 
 pub returns : goal.returns
 returns c =
-    let F = func_of c.args.func.now in
-                (
+    let F = func_of c.args.func.now in (
       c.have_ctrls.ensures
           ∙ ap (every (λ r. within r (keys F.ctrls))) c.order-n.ensures.result_after
           ∙ sym (control_reached F (sym c.index.ensures.value ∙ not-false c.index.result c.if-not-index.false-raw) (sym c.lines_fit.ensures ∙ not-false c.lines_fit.result c.if-not-lines_fit.false-raw) (λ e. c.if-ctrl_total-eq0.false (c.ctrl_total.ensures ∙ e))),

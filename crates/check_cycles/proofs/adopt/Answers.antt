@@ -54,8 +54,7 @@ loop-i-smaller c = omega arith
 
 pub loop-i-preserved : goal.loop-i-preserved
 loop-i-preserved c =
-    let q = word regions c.args.func.now c.args.r 1 / 4096 in
-                (
+    let q = word regions c.args.func.now c.args.r 1 / 4096 in (
       omega arith,
       c.mark_run.ensures.work_len_unchanged ∙ c.loop-i.invariant.1,
       adopt_turn c.args.func.now (c.args.r + 1) (q + c.loop-i.i) (q + (c.loop-i.i + 1)) c.loop-i.i c.row_nodes-n.result c.row_node-x.result c.row_child_at.result c.row_children.result c.loop-i.work _ c.loop-i.invariant.2 (omega arith) (omega arith) c.row_node-x.ensures c.row_child_at.ensures c.row_children.ensures

@@ -16,12 +16,11 @@ pub loop-r-smaller : goal.loop-r-smaller
 loop-r-smaller c = omega arith
 
 pub loop-r-preserved : goal.loop-r-preserved
-loop-r-preserved c =
-    (
-      omega arith,
-      c.adopt.ensures.work_len_unchanged ∙ c.loop-r.invariant.1,
-      c.adopt.ensures.work_after ∙ ap (mark_all (kids c.args.func.now c.loop-r.r) (c.loop-r.r + 1)) c.loop-r.invariant.2 ∙ table_next c.args.func.now c.args.work.now c.loop-r.r,
-    )
+loop-r-preserved c = (
+  omega arith,
+  c.adopt.ensures.work_len_unchanged ∙ c.loop-r.invariant.1,
+  c.adopt.ensures.work_after ∙ ap (mark_all (kids c.args.func.now c.loop-r.r) (c.loop-r.r + 1)) c.loop-r.invariant.2 ∙ table_next c.args.func.now c.args.work.now c.loop-r.r,
+)
 
 pub shape_of-work : goal.shape_of-work
 shape_of-work c = c.loop-r.invariant.1

@@ -28,7 +28,7 @@ loop-work-smaller c = omega (arith, climb_less (parent c.args.work.now) c.args.n
 pub loop-work-preserved : goal.loop-work-preserved
 loop-work-preserved c =
     let p = parent c.args.work.now in
-        let y : c.wide-p.result ≡ suc (c.wide-p.result - 1) = omega (arith, c.if-p-eq0.false) in (
+    let y : c.wide-p.result ≡ suc (c.wide-p.result - 1) = omega (arith, c.if-p-eq0.false) in (
       simp length-set c.loop-work.invariant.0,
       climb_further p c.args.n c.args.r c.loop-work.at c.loop-work.work c.loop-work.invariant.1 c.loop-work-test.true (c.wide-p.result - 1)
           (climb_parent p c.args.n c.args.r c.loop-work.at c.loop-work.work c.loop-work.invariant.1 c.loop-work-test.true c.wide-p.result c.wide-p.ensures ∙ y),

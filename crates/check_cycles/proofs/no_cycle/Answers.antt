@@ -39,6 +39,9 @@ shape_of-work c = c.none_around.ensures.work_len_unchanged ∙ c.clear_stamps.en
 pub returns : goal.returns
 returns c =
     let room : c.wide-n.result ≤ length c.args.work.now = omega (arith, c.wide-n.ensures, c.count.ensures, c.requires.lists_whole.safe.region_room, c.requires.work_need_in_bounds) in
-    record { value = c.none_around.ensures.value
+    record {
+      value = c.none_around.ensures.value
           ∙ table_acyclic c.args.func.now c.wide-n.result c.clear.new.work c.adopt_all.new.work (omega (arith, c.clear.ensures.work_len_unchanged)) (λ x h. c.clear.ensures.cleared.blank x (omega arith) h) c.adopt_all.ensures.work_after c.clear_stamps.new.work c.clear_stamps.ensures.stamped.same
-          ∙ ap (λ n. acyclic (parent_in c.args.func.now n) n) (c.wide-n.ensures ∙ c.count.ensures); work_len_unchanged = c.none_around.ensures.work_len_unchanged ∙ c.clear_stamps.ensures.work_len_unchanged ∙ c.adopt_all.ensures.work_len_unchanged ∙ c.clear.ensures.work_len_unchanged }
+          ∙ ap (λ n. acyclic (parent_in c.args.func.now n) n) (c.wide-n.ensures ∙ c.count.ensures);
+      work_len_unchanged = c.none_around.ensures.work_len_unchanged ∙ c.clear_stamps.ensures.work_len_unchanged ∙ c.adopt_all.ensures.work_len_unchanged ∙ c.clear.ensures.work_len_unchanged;
+    }

@@ -32,13 +32,12 @@ bounds-work-x c =
     low
 
 pub loop-i-preserved : goal.loop-i-preserved
-loop-i-preserved c =
-    (
-      omega arith,
-      simp length-set c.loop-i.invariant.1,
-      c.loop-i.invariant.2
-          ∙ mark_turn c.args.k c.args.func.now (c.args.at + c.loop-i.i) (c.args.at + (c.loop-i.i + 1)) c.loop-i.i c.args.n c.row_ref-x.result c.loop-i.work (omega arith) (omega arith) c.row_ref-x.ensures c.args.v,
-    )
+loop-i-preserved c = (
+  omega arith,
+  simp length-set c.loop-i.invariant.1,
+  c.loop-i.invariant.2
+      ∙ mark_turn c.args.k c.args.func.now (c.args.at + c.loop-i.i) (c.args.at + (c.loop-i.i + 1)) c.loop-i.i c.args.n c.row_ref-x.result c.loop-i.work (omega arith) (omega arith) c.row_ref-x.ensures c.args.v,
+)
 
 pub shape_of-work : goal.shape_of-work
 shape_of-work c = c.loop-i.invariant.1

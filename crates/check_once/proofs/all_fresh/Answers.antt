@@ -39,13 +39,12 @@ bounds-work-x-in-loop-i c =
     low
 
 pub loop-i-preserved : goal.loop-i-preserved
-loop-i-preserved c =
-    (
-      omega arith,
-      simp length-set c.loop-i.invariant.1,
-      c.loop-i.invariant.2
-          ∙ fresh_turn c.args.k c.args.func.now c.loop-i.i (c.loop-i.i + 1) c.loop-i.i c.args.n c.row_ref-x.result c.loop-i.work (omega arith) refl c.row_ref-x.ensures c.if-work-x-eq1.false,
-    )
+loop-i-preserved c = (
+  omega arith,
+  simp length-set c.loop-i.invariant.1,
+  c.loop-i.invariant.2
+      ∙ fresh_turn c.args.k c.args.func.now c.loop-i.i (c.loop-i.i + 1) c.loop-i.i c.args.n c.row_ref-x.result c.loop-i.work (omega arith) refl c.row_ref-x.ensures c.if-work-x-eq1.false,
+)
 
 pub shape_of-work : goal.shape_of-work
 shape_of-work c = c.loop-i.invariant.1

@@ -47,9 +47,12 @@ shape_of-work c = c.one_parent.ensures.work_len_unchanged ∙ simp length-set c.
 pub returns : goal.returns
 returns c =
     let counts : count child_refs c.args.func.now ≤ count regions c.args.func.now = omega (arith, c.if-n-c.false, c.count-c.ensures, c.count-n.ensures) in
-    record { value = child_is c.args.func.now c.count-n.result c.count-c.result c.count.result c.count-n.ensures c.count-c.ensures c.count.ensures c.one_parent.result (sym c.child_fit.ensures ∙ not-false c.child_fit.result c.if-not-child_fit.false-raw)
+    record {
+      value = child_is c.args.func.now c.count-n.result c.count-c.result c.count.result c.count-n.ensures c.count-c.ensures c.count.ensures c.one_parent.result (sym c.child_fit.ensures ∙ not-false c.child_fit.result c.if-not-child_fit.false-raw)
           (c.one_parent.ensures.value
           ∙ fresh_refs_zero child_refs regions c.args.func.now (count child_refs c.args.func.now) c.requires.tree_safe.child_refs_law (counts) refl c.clear.new.work
           (omega (arith, c.requires.tree_safe.region_room, c.requires.work_need_in_bounds, c.clear.ensures.work_len_unchanged))
           (omega (arith, c.requires.work_need_in_bounds, c.clear.ensures.work_len_unchanged))
-          (λ x h. c.clear.ensures.cleared.blank x (omega arith) (omega (arith, c.wide.ensures, c.count-n.ensures)))); work_len_unchanged = c.one_parent.ensures.work_len_unchanged ∙ simp length-set c.clear.ensures.work_len_unchanged }
+          (λ x h. c.clear.ensures.cleared.blank x (omega arith) (omega (arith, c.wide.ensures, c.count-n.ensures))));
+      work_len_unchanged = c.one_parent.ensures.work_len_unchanged ∙ simp length-set c.clear.ensures.work_len_unchanged;
+    }

@@ -75,13 +75,12 @@ children-preserved c =
     )
 
 pub nodes-preserved : goal.nodes-preserved
-nodes-preserved c =
-    (
-      omega arith,
-      c.children.invariant.1 ∙ c.nodes.invariant.1,
-      c.children.invariant.2 ∙ c.nodes.invariant.2,
-      c.nodes.invariant.3 ∙ c.children.invariant.3 ∙ children_done c.args.func.now (word nodes c.args.func.now c.nodes.n 5 / 4096 + c.children.i) c.row_children-m.result c.children.i (gather (child_refs_in c.args.func.now) (tabulate (λ k. k) (c.nodes.n + 1) (c.wide-total.result - (c.nodes.n + 1)))) c.children.work (omega arith),
-    )
+nodes-preserved c = (
+  omega arith,
+  c.children.invariant.1 ∙ c.nodes.invariant.1,
+  c.children.invariant.2 ∙ c.nodes.invariant.2,
+  c.nodes.invariant.3 ∙ c.children.invariant.3 ∙ children_done c.args.func.now (word nodes c.args.func.now c.nodes.n 5 / 4096 + c.children.i) c.row_children-m.result c.children.i (gather (child_refs_in c.args.func.now) (tabulate (λ k. k) (c.nodes.n + 1) (c.wide-total.result - (c.nodes.n + 1)))) c.children.work (omega arith),
+)
 
 pub shape_of-work-after-nodes : goal.shape_of-work-after-nodes
 shape_of-work-after-nodes c = c.nodes.invariant.2
@@ -97,8 +96,11 @@ shape_of-work-then-work-c-eq1 c = c.children.invariant.2 ∙ c.nodes.invariant.2
 pub returns-then-work-c-eq1 : goal.returns-then-work-c-eq1
 returns-then-work-c-eq1 c =
     let q = word nodes c.args.func.now c.nodes.n 5 / 4096 in
-    record { value = sym
+    record {
+      value = sym
           (c.nodes.invariant.3
           ∙ c.children.invariant.3
           ∙ child_hit c.args.func.now (q + c.children.i) (q + (c.children.i + 1)) c.children.i c.row_children-m.result c.row_child-c.result (gather (child_refs_in c.args.func.now) (tabulate (λ k. k) (c.nodes.n + 1) (c.wide-total.result - (c.nodes.n + 1)))) c.children.work (omega arith) (omega arith) c.row_child-c.ensures
-          c.if-work-c-eq1.true); work_len_unchanged = c.children.invariant.2 ∙ c.nodes.invariant.2 }
+          c.if-work-c-eq1.true);
+      work_len_unchanged = c.children.invariant.2 ∙ c.nodes.invariant.2;
+    }

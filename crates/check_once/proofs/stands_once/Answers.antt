@@ -31,8 +31,11 @@ returns c =
     let same : count c.args.k c.args.func.now ≡ count c.args.p c.args.func.now = omega (arith, c.if-count-n.false, c.count.ensures, c.count-n.ensures) in
     let e = same in
     let r = room in
-    record { value = once_is c.args.k c.args.p c.args.func.now c.all_fresh.result e
+    record {
+      value = once_is c.args.k c.args.p c.args.func.now c.all_fresh.result e
           (c.all_fresh.ensures.value
           ∙ fresh_refs c.args.k c.args.p c.args.func.now c.wide-2.result c.requires.k_lt_pool_total.3 (omega arith) (omega (arith, c.wide-2.ensures, c.count-n.ensures)) c.clear.new.work
           (omega (arith, c.clear.ensures.work_len_unchanged))
-          (λ x h. c.clear.ensures.cleared.blank x (omega arith) (omega (arith, c.wide.ensures, c.count-n.ensures)))); work_len_unchanged = c.all_fresh.ensures.work_len_unchanged ∙ c.clear.ensures.work_len_unchanged }
+          (λ x h. c.clear.ensures.cleared.blank x (omega arith) (omega (arith, c.wide.ensures, c.count-n.ensures))));
+      work_len_unchanged = c.all_fresh.ensures.work_len_unchanged ∙ c.clear.ensures.work_len_unchanged;
+    }

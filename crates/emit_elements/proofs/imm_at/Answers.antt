@@ -36,5 +36,5 @@ returns-in-Ctrl c = element (listed_imms (func_of c.args.func.now)) c.args.k (im
 pub returns-in-Short : goal.returns-in-Short
 returns-in-Short c =
     let F = func_of c.args.func.now in
-        element (listed_imms F) c.args.k (imm_from 0 0 0) c.in-Short.is
+    element (listed_imms F) c.args.k (imm_from 0 0 0) c.in-Short.is
     (single_at (imm_from 0 c.in-Short.a c.in-Short.b) (imm_from 0 0 0) c.args.k (list_within (ImmsFit F) (listed_imms F) c.in-Short.is (c.requires.imms_fit, c.requires.k_in_bounds)).1)

@@ -44,7 +44,7 @@ returns-in-Node c = element (values_of (func_of c.args.func.now)) c.args.k (cons
 pub returns-in-Test : goal.returns-in-Test
 returns-in-Test c =
     let F = func_of c.args.func.now in
-        element (values_of F) c.args.k (const 0) c.in-Test.is
+    element (values_of F) c.args.k (const 0) c.in-Test.is
     (c.first_value.ensures
     ∙ single_at (first_value (node_values (node_of F c.in-Test.n))) (const 0) c.args.k (list_within (ValuesFit F) (values_of F) c.in-Test.is (c.requires.values_fit, c.requires.k_in_bounds)).1)
 

@@ -14,14 +14,14 @@ use Rattle.emit_term_parts.proofs.term_imms.Goals as goal
 pub returns-in-Line : goal.returns-in-Line
 returns-in-Line c =
     let F = func_of c.args.func.now in
-        record { is = list_back (λ (x : TermKind). term_imms (term_of F x).kind) c.in-Line.is (line_imms (ctrl_line_of F c.in-Line.c).1.kind); fits = fits_as c.requires c.in-Line.is }
+    record { is = list_back (λ (x : TermKind). term_imms (term_of F x).kind) c.in-Line.is (line_imms (ctrl_line_of F c.in-Line.c).1.kind); fits = fits_as c.requires c.in-Line.is }
 
 pub returns-in-Leave : goal.returns-in-Leave
 returns-in-Leave c =
     let F = func_of c.args.func.now in
-            record { is = list_back (λ (x : TermKind). term_imms (term_of F x).kind) c.in-Leave.is (node_term_imms F c.in-Leave.n (node_of F c.in-Leave.n)); fits = fits_as c.requires c.in-Leave.is }
+    record { is = list_back (λ (x : TermKind). term_imms (term_of F x).kind) c.in-Leave.is (node_term_imms F c.in-Leave.n (node_of F c.in-Leave.n)); fits = fits_as c.requires c.in-Leave.is }
 
 pub returns-in-Select : goal.returns-in-Select
 returns-in-Select c =
     let F = func_of c.args.func.now in
-            record { is = list_back (λ (x : TermKind). term_imms (term_of F x).kind) c.in-Select.is (node_term_imms F c.in-Select.n (node_of F c.in-Select.n)); fits = fits_as c.requires c.in-Select.is }
+    record { is = list_back (λ (x : TermKind). term_imms (term_of F x).kind) c.in-Select.is (node_term_imms F c.in-Select.n (node_of F c.in-Select.n)); fits = fits_as c.requires c.in-Select.is }

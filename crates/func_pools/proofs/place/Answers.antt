@@ -11,8 +11,11 @@ overflow_add-func-else-n-most c = omega (arith, (inside c.args.k c.requires.1).r
 
 pub returns-then-n-most : goal.returns-then-n-most
 returns-then-n-most c =
-    record { func_after = place_stored c.args.k c.wide.result c.spot.result c.args.e.now c.args.func.now _ c.wide.ensures c.spot.ensures.0 c.store.ensures.func_after
-          (omega arith); func_len_unchanged = simp length-set (omega arith) }
+    record {
+      func_after = place_stored c.args.k c.wide.result c.spot.result c.args.e.now c.args.func.now _ c.wide.ensures c.spot.ensures.0 c.store.ensures.func_after
+          (omega arith);
+      func_len_unchanged = simp length-set (omega arith);
+    }
 
 pub returns-else-n-most : goal.returns-else-n-most
 returns-else-n-most c = record { func_after = place_counted c.args.k c.room-most.result c.args.e.now c.args.func.now c.room-most.ensures (omega arith); func_len_unchanged = simp length-set }

@@ -8,12 +8,11 @@ use Rattle.general_laws.specs.Part.{run_more}
 use Rattle.func_pools.proofs.store.Goals as goal
 
 pub loop-i-preserved : goal.loop-i-preserved
-loop-i-preserved c =
-    (
-      omega arith,
-      simp length-set c.loop-i.invariant.1,
-      ap (λ w. set w (c.args.at + c.loop-i.i) (get_or c.args.e.now c.loop-i.i 0)) c.loop-i.invariant.2 ∙ run_more c.args.func.now c.args.e.now c.args.at c.loop-i.i (omega arith),
-    )
+loop-i-preserved c = (
+  omega arith,
+  simp length-set c.loop-i.invariant.1,
+  ap (λ w. set w (c.args.at + c.loop-i.i) (get_or c.args.e.now c.loop-i.i 0)) c.loop-i.invariant.2 ∙ run_more c.args.func.now c.args.e.now c.args.at c.loop-i.i (omega arith),
+)
 
 pub returns : goal.returns
 returns c =

@@ -25,5 +25,5 @@ tail_lines-requires c = (omega (arith, c.func_line.ensures.func_len_unchanged, c
 pub returns : goal.returns
 returns c =
     let p = by_answer step_of c.in-On.is c.word.ensures in
-        let s = met c.in-On-func_line.is c.func_line.ensures.stores in
+    let s = met c.in-On-func_line.is c.func_line.ensures.stores in
     record { text_is = text_whole p s c.tail_lines.result _ c.tail_lines.new.func c.tail_lines.ensures.tail_is; func_len_unchanged = c.tail_lines.ensures.func_len_unchanged ∙ c.func_line.ensures.func_len_unchanged; work_len_unchanged = c.tail_lines.ensures.work_len_unchanged }

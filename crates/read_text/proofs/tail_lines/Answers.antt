@@ -19,7 +19,7 @@ lines-requires-2 c =
 pub returns-in_default-lines : goal.returns-in_default-lines
 returns-in_default-lines c =
     let p = lined_told const_lines param_lines keep_const c.args.text.now c.args.from.at c.args.func.now c.lines.new.func c.in-On.is c.lines.ensures.lined in
-        let q = lined_told param_lines rest_lines keep_param c.args.text.now _ c.lines.new.func c.lines-2.new.func c.in_default-lines.is c.lines-2.ensures.lined in
+    let q = lined_told param_lines rest_lines keep_param c.args.text.now _ c.lines.new.func c.lines-2.new.func c.in_default-lines.is c.lines-2.ensures.lined in
     record { tail_is = tail_params p q; func_len_unchanged = c.lines-2.ensures.func_len_unchanged ∙ c.lines.ensures.func_len_unchanged; work_len_unchanged = search rules }
 
 pub rest_lines-requires : goal.rest_lines-requires
@@ -30,5 +30,5 @@ rest_lines-requires c =
 pub returns : goal.returns
 returns c =
     let p = lined_told const_lines param_lines keep_const c.args.text.now c.args.from.at c.args.func.now c.lines.new.func c.in-On.is c.lines.ensures.lined in
-        let q = lined_told param_lines rest_lines keep_param c.args.text.now _ c.lines.new.func c.lines-2.new.func c.in-On-lines.is c.lines-2.ensures.lined in
+    let q = lined_told param_lines rest_lines keep_param c.args.text.now _ c.lines.new.func c.lines-2.new.func c.in-On-lines.is c.lines-2.ensures.lined in
     record { tail_is = tail_is p q c.rest_lines.result c.args.work.now c.rest_lines.new.func c.rest_lines.ensures.body_is; func_len_unchanged = c.rest_lines.ensures.func_len_unchanged ∙ c.lines-2.ensures.func_len_unchanged ∙ c.lines.ensures.func_len_unchanged; work_len_unchanged = c.rest_lines.ensures.work_len_unchanged }

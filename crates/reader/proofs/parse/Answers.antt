@@ -16,7 +16,11 @@ judge-r-requires c = enough_both (length c.args.func.now) (length c.args.work.no
 pub returns : goal.returns
 returns c =
     let s = enough_both (length c.args.func.now) (length c.args.work.now) (sym c.enough.ensures ∙ not-false _ c.if-not-enough.false-raw) in
-    record { func_after = (answered c.args.text.now c.args.func.now c.args.work.now s.0 c.judge-r.result c.judge-r.new.func c.leave.new.func c.clear_all.new.words c.judge-r.ensures.judges c.judge-r.ensures.func_len_unchanged c.leave.ensures
-    (c.clear_all.ensures ∙ ap (λ (n : ℕ). replicate n 0) c.judge-r.ensures.work_len_unchanged)).0; func_after_2 = (answered c.args.text.now c.args.func.now c.args.work.now s.0 c.judge-r.result c.judge-r.new.func c.leave.new.func c.clear_all.new.words c.judge-r.ensures.judges c.judge-r.ensures.func_len_unchanged c.leave.ensures
-    (c.clear_all.ensures ∙ ap (λ (n : ℕ). replicate n 0) c.judge-r.ensures.work_len_unchanged)).1.0; work_after = (answered c.args.text.now c.args.func.now c.args.work.now s.0 c.judge-r.result c.judge-r.new.func c.leave.new.func c.clear_all.new.words c.judge-r.ensures.judges c.judge-r.ensures.func_len_unchanged c.leave.ensures
-    (c.clear_all.ensures ∙ ap (λ (n : ℕ). replicate n 0) c.judge-r.ensures.work_len_unchanged)).1.1 }
+    record {
+      func_after = (answered c.args.text.now c.args.func.now c.args.work.now s.0 c.judge-r.result c.judge-r.new.func c.leave.new.func c.clear_all.new.words c.judge-r.ensures.judges c.judge-r.ensures.func_len_unchanged c.leave.ensures
+          (c.clear_all.ensures ∙ ap (λ (n : ℕ). replicate n 0) c.judge-r.ensures.work_len_unchanged)).0;
+      func_after_2 = (answered c.args.text.now c.args.func.now c.args.work.now s.0 c.judge-r.result c.judge-r.new.func c.leave.new.func c.clear_all.new.words c.judge-r.ensures.judges c.judge-r.ensures.func_len_unchanged c.leave.ensures
+          (c.clear_all.ensures ∙ ap (λ (n : ℕ). replicate n 0) c.judge-r.ensures.work_len_unchanged)).1.0;
+      work_after = (answered c.args.text.now c.args.func.now c.args.work.now s.0 c.judge-r.result c.judge-r.new.func c.leave.new.func c.clear_all.new.words c.judge-r.ensures.judges c.judge-r.ensures.func_len_unchanged c.leave.ensures
+          (c.clear_all.ensures ∙ ap (λ (n : ℕ). replicate n 0) c.judge-r.ensures.work_len_unchanged)).1.1;
+    }

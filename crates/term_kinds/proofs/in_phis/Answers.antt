@@ -13,12 +13,15 @@ node_child-requires c = record { tables = c.requires.tables; n_in_bounds = c.req
 
 pub region_in_count-requires : goal.region_in_count-requires
 region_in_count-requires c =
-    record { tables = c.requires.tables; r_in_bounds = omega (
+    record {
+      tables = c.requires.tables;
+      r_in_bounds = omega (
         arith,
         c.node_child.ensures,
         c.requires.walkable.named.child c.args.n 0 c.requires.n_in_bounds
             (loop_child (node_of (func_of c.args.func.now) c.args.n) (sym c.is_loop.ensures ∙ c.if-is_loop.true)),
-      ) }
+      );
+    }
 
 pub returns-then-is_loop : goal.returns-then-is_loop
 returns-then-is_loop c =

@@ -9,8 +9,12 @@ use Rattle.term_kinds.proofs.term_kind.Goals as goal
 
 pub onward-requires : goal.onward-requires
 onward-requires c =
-    record { visited = c.requires.visited; i_lt_m = c.requires.i_lt_m; i_value = goes_on_law (func_of c.args.func.now) c.args.i
-            (ap as_point (sym c.in-RegionEntry.is) ∙ c.point-p.ensures) refl }
+    record {
+      visited = c.requires.visited;
+      i_lt_m = c.requires.i_lt_m;
+      i_value = goes_on_law (func_of c.args.func.now) c.args.i
+          (ap as_point (sym c.in-RegionEntry.is) ∙ c.point-p.ensures) refl;
+    }
 
 pub region_exit-requires : goal.region_exit-requires
 region_exit-requires c =
@@ -22,8 +26,12 @@ node_entry-requires c = record { tables = c.requires.visited.tables; walkable = 
 
 pub onward-requires-in-NodeExit : goal.onward-requires-in-NodeExit
 onward-requires-in-NodeExit c =
-    record { visited = c.requires.visited; i_lt_m = c.requires.i_lt_m; i_value = goes_on_law (func_of c.args.func.now) c.args.i
-            (ap as_point (sym c.in-NodeExit.is) ∙ c.point-p.ensures) refl }
+    record {
+      visited = c.requires.visited;
+      i_lt_m = c.requires.i_lt_m;
+      i_value = goes_on_law (func_of c.args.func.now) c.args.i
+          (ap as_point (sym c.in-NodeExit.is) ∙ c.point-p.ensures) refl;
+    }
 
 pub returns-in-RegionExit : goal.returns-in-RegionExit
 returns-in-RegionExit c =

@@ -11,8 +11,11 @@ returns-then-k-c c =
 
 pub target_at-requires : goal.target_at-requires
 target_at-requires c =
-    record { known = record { tables = c.requires.visited.tables; walkable = c.requires.visited.walkable; fits = c.term_kind-w.ensures.fits }; k_in_bounds = label_low (func_of c.args.func.now) c.term_kind-w.ensures c.args.k
-          c.merges-c.ensures c.if-k-c.false c.requires.k_in_bounds }
+    record {
+      known = record { tables = c.requires.visited.tables; walkable = c.requires.visited.walkable; fits = c.term_kind-w.ensures.fits };
+      k_in_bounds = label_low (func_of c.args.func.now) c.term_kind-w.ensures c.args.k
+          c.merges-c.ensures c.if-k-c.false c.requires.k_in_bounds;
+    }
 
 pub returns : goal.returns
 returns c =

@@ -10,8 +10,11 @@ use Rattle.term_labels.proofs.target.Goals as goal
 
 pub target_at-requires : goal.target_at-requires
 target_at-requires c =
-    record { known = record { tables = c.requires.visited.tables; walkable = c.requires.visited.walkable; fits = c.term_kind.ensures.fits }; k_in_bounds = subst (λ (l : List CfgPoint). c.args.k < length l)
-          (sym (targets_are (func_of c.args.func.now) c.term_kind.ensures)) c.requires.k_in_bounds }
+    record {
+      known = record { tables = c.requires.visited.tables; walkable = c.requires.visited.walkable; fits = c.term_kind.ensures.fits };
+      k_in_bounds = subst (λ (l : List CfgPoint). c.args.k < length l)
+          (sym (targets_are (func_of c.args.func.now) c.term_kind.ensures)) c.requires.k_in_bounds;
+    }
 
 pub returns : goal.returns
 returns c = c.target_at.ensures ∙ ap (λ (l : List CfgPoint). number_at l c.args.k) (targets_are (func_of c.args.func.now) c.term_kind.ensures)

@@ -25,9 +25,9 @@ mark_of-requires t c = turn_mark c.loop-i.invariant c.loop-i-test.true c.way-t.e
 
 pub visit-at-requires : goal.visit-at-requires
 visit-at-requires t c = (
-    omega (arith, c.loop-i.invariant.less, c.decreases, fewer c.requires c.set_mark.ensures),
-    turn_call c.loop-i.invariant c.loop-i-test.true c.way-t.ensures (sym c.mark_of.ensures ∙ c.if-mark_of-eq0.true),
-  )
+  omega (arith, c.loop-i.invariant.less, c.decreases, fewer c.requires c.set_mark.ensures),
+  turn_call c.loop-i.invariant c.loop-i-test.true c.way-t.ensures (sym c.mark_of.ensures ∙ c.if-mark_of-eq0.true),
+)
 
 pub loop-i-preserved-then-mark_of-eq0 : goal.loop-i-preserved-then-mark_of-eq0
 loop-i-preserved-then-mark_of-eq0 t c =
@@ -44,6 +44,6 @@ shape_of-work t c = c.leave.auto.work ∙ c.loop-i.invariant.same ∙ c.set_mark
 
 pub returns : goal.returns
 returns t c = record {
-    roots_visited = turn_done c.requires c.set_mark.ensures c.loop-i.invariant c.loop-i-test.false c.leave.ensures.value c.leave.ensures.work_after;
-    work_len_unchanged = c.leave.auto.work ∙ c.loop-i.invariant.same ∙ c.set_mark.auto.work;
-  }
+  roots_visited = turn_done c.requires c.set_mark.ensures c.loop-i.invariant c.loop-i-test.false c.leave.ensures.value c.leave.ensures.work_after;
+  work_len_unchanged = c.leave.auto.work ∙ c.loop-i.invariant.same ∙ c.set_mark.auto.work;
+}
