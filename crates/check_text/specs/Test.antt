@@ -20,8 +20,8 @@ use Rattle.results.specs.declared.Parsed.TheVariants.{Function, Refused}
 
 -- the first of the tests of 3 to 7 and 13 that is not passed
 abbrev pub judge : Bool → Bool → Bool → Bool → Bool → Bool → Parsed
-judge false references tree counts control differ = Refused Limits
-judge true false tree counts control differ = Refused References
+judge false references is_tree counts control differ = Refused Limits
+judge true false is_tree counts control differ = Refused References
 judge true true false counts control differ = Refused Tree
 judge true true true false control differ = Refused Counts
 judge true true true true false differ = Refused Control
