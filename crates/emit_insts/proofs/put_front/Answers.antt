@@ -8,4 +8,4 @@ use Rattle.emit_insts.proofs.put_front.Goals as goal
 
 pub returns : goal.returns
 unfolding front_items
-returns c = put_more (put_same c.put_head-a.ensures (ap (λ (n : ℕ). head_items c.args.opcode c.args.attrs c.args.ty c.args.result n) c.imm_count.ensures.value)) (put_more c.put_imms-b.ensures c.put_word.ensures)
+returns c = put_more (put_same c.put_head-a.ensures (ap (λ (n : ℕ). head_items c.args.opcode c.args.attrs c.args.ty c.args.res n) c.imm_count.ensures.value)) (put_more c.put_imms-b.ensures c.put_word.ensures)

@@ -10,8 +10,8 @@ use Rattle.print_lines.specs.Lines.{points_bytes}
 use Rattle.print_labels.proofs.put_targets.Given as goal
 
 abbrev pub invariant-loop-k : goal.invariant-loop-k
-invariant-loop-k l = let l = (visited_block (func_of l.func) l.i).term.targets in
-    (l.n ≡ length l) × (l.k ≤ l.n) × Part l.initial.out l.at (points_bytes l) l.out l.next (points_bytes (drop l.k l))
+invariant-loop-k l = let ls = (visited_block (func_of l.func) l.i).term.targets in
+    (l.n ≡ length ls) × (l.k ≤ l.n) × Part l.initial.out l.at (points_bytes ls) l.out l.next (points_bytes (drop l.k ls))
 
 abbrev pub decreases-loop-k : goal.decreases-loop-k
 decreases-loop-k l = l.n - l.k
