@@ -8,9 +8,6 @@ use Rattle.emit_list.proofs.put_points.Goals as goal
 pub loop-k-init : goal.loop-k-init
 loop-k-init c = loop_start _ _ (omega arith) (omega arith)
 
-pub put_point-d-requires : goal.put_point-d-requires
-put_point-d-requires c = record { over = (search rules).0; i_lt_m = (search rules).1 }
-
 pub loop-k-smaller : goal.loop-k-smaller
 loop-k-smaller c = omega arith
 
