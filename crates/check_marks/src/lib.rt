@@ -13,10 +13,8 @@ pub fn mark_run(func: &[u32], k: usize, at: usize, n: usize, v: u32, work: &mut 
     ensures work_after { work.new ≡ mark_all (pool_numbers k func.now at n) v work.old }
     ensures work_len_unchanged { length work.new ≡ length work.old }
 {
-    let mut i = 0;
-    while i < n {
+    for i in 0..n {
         let x = row_ref(func, k, at + i);
         work[x] = v;
-        i += 1;
     }
 }
