@@ -12,7 +12,7 @@ pub enum Val {
 }
 
 // A node's kind.
-#[derive(Clone, Copy)]
+#[derive(Clone, Copy, PartialEq, Eq)]
 pub enum NodeKind {
     Block,
     SelectBool,
@@ -30,7 +30,7 @@ pub enum OpKind {
 }
 
 // A ctrl line's kind.
-#[derive(Clone, Copy)]
+#[derive(Clone, Copy, PartialEq, Eq)]
 pub enum CtrlKind {
     Unreachable,
     Return,
@@ -38,13 +38,6 @@ pub enum CtrlKind {
     Bool,
     Inst,
     Exit,
-}
-
-// A ctrl line's number, or that there is none.
-#[derive(Clone, Copy)]
-pub enum CtrlAt {
-    At(usize),
-    Nothing,
 }
 
 // Counts of the pools that a line's lists go to.
