@@ -47,7 +47,7 @@ fn status(func: &[u32], work: &[u32], m: usize, i: usize, joined: bool) -> u32
 }
 
 // The point at k has number t, one use and no phis.
-#[tactic(auto, using(crate::proofs::AbsorbPass::number_small, crate::proofs::AbsorbPass::join_all))]
+#[tactic(auto, using(crate::proofs::AbsorbPass::number_small, crate::proofs::AbsorbPass::join_uses, crate::proofs::AbsorbPass::join_all))]
 fn joins(func: &[u32], work: &[u32], m: usize, k: usize, t: usize) -> bool
     requires visited { Visited func.now work.now m }
     requires counted { Counted (func_of func.now) work.now }
@@ -55,7 +55,10 @@ fn joins(func: &[u32], work: &[u32], m: usize, k: usize, t: usize) -> bool
     ensures { result ≡ joinable (func_of func.now) k t }
 {
     let q = number(work, POINTS, k);
-    t == q && word(work, USES, q) == 1 && phi_count(func, work, m, k) == 0
+    if t != q {
+        return false;
+    }
+    word(work, USES, q) == 1 && phi_count(func, work, m, k) == 0
 }
 
 // The point at i absorbs the next one.
