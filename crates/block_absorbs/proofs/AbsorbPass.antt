@@ -29,9 +29,8 @@ use Rattle.lifting_blocks.specs.FlatLaws.{absorb_last, absorb_next}
 use Rattle.walk_points.specs.Numbers.{Small, point_low, point_number, point_of}
 use Rattle.terminators.specs.At.{visited_block, point_at}
 use Rattle.terminators.specs.Visited.{Visited, label_small, point_small, point_word, visited_below, point_read}
-use Rattle.terminators.specs.declared.Sole.{Sole}
-use Rattle.terminators.specs.declared.Sole.TheVariants.{To, Nowhere}
-use Rattle.terminators.specs.Kinds.{as_sole}
+use Rattle.std.specs.Prelude.{Some, None}
+use Rattle.terminators.specs.Kinds.{Sole, as_sole}
 use Rattle.block_uses.specs.Uses.{Counted}
 use Rattle.block_absorbs.specs.Absorbs.{Beyond, AbsorbWords, absorbed, absorbs, alone_word, absorb_is, absorb_word, joinable, stands, status_alone, status_joined, status_word}
 
@@ -105,11 +104,11 @@ status_new w i e y l = l ∙ ap (λ s. status_word s (point_at (func_of w) i)) (
 
 -- ---- absorption
 
-none_of : (o : Option CfgPoint) → as_sole o ≡ Nowhere → o ≡ none
+none_of : (o : Option CfgPoint) → as_sole o ≡ None → o ≡ none
 none_of none e = refl
 none_of (some p) e = absurd (let z : ◌≡◌ {A = ℕ} 0 1 = cc in omega arith)
 
-some_of : (o : Option CfgPoint) (t : ℕ) → as_sole o ≡ To t → (p : CfgPoint) × (o ≡ some p) × (t ≡ point_number p)
+some_of : (o : Option CfgPoint) (t : ℕ) → as_sole o ≡ Some t → (p : CfgPoint) × (o ≡ some p) × (t ≡ point_number p)
 some_of none t e = absurd (let z : ◌≡◌ {A = ℕ} 0 1 = cc in omega arith)
 some_of (some p) t e = (p, refl, cc)
 
@@ -131,11 +130,11 @@ module _ {w u : List ℕ} {m : ℕ} (k : Visited w u m) (i : ℕ) (h : i < m) wh
     unfolding absorbs_next
     by = absorb_next (use_count (walk_of (func_of w))) (walk_of (func_of w)) i (omega (arith, k.count))
 
-    pub absorb_none : s ≡ Nowhere → false ≡ absorbs (func_of w) i
+    pub absorb_none : s ≡ None → false ≡ absorbs (func_of w) i
     absorb_none g =
         sym (by ∙ ap (λ (o : Option CfgPoint). absorbs_target o q (use_count (walk_of (func_of w)) q) (visited_block (func_of w) (suc i)).keys) (none_of sole (sym e ∙ g)))
 
-    pub absorb_to : {t : ℕ} → s ≡ To t → {b : Bool}
+    pub absorb_to : {t : ℕ} → s ≡ Some t → {b : Bool}
         → b ≡ joinable (func_of w) (i + 1) t → b ≡ absorbs (func_of w) i
     absorb_to {t} g {b} y =
         let o = some_of sole t (sym e ∙ g) in

@@ -11,42 +11,43 @@ ghost use Rattle.terminators.specs.Visited.{Visited};
 ghost use Rattle.block_uses.specs.Uses.{Counted};
 ghost use Rattle.block_absorbs.specs.Absorbs.{Beyond, AbsorbWords, absorbed, absorbs, alone_word, absorb_word, joinable, stands, status_word};
 
-use func_pools::wide;
 use term_labels::{phi_count, sole_target};
-use terminators::Sole;
-use work::{ABSORBS, POINTS, STATUSES, USES, number};
+use work::{ABSORBS, POINTS, STATUSES, USES, number, word};
 
-// The word of the point at i where it is absorbed by none: it starts a block if it is used.
-fn alone(func: &[u32], work: &[u32], m: usize, i: usize) -> usize
+// The word of the point at i where it is absorbed by none: it starts a block if it is used. A word, and no Option, since the table holds it as it is.
+#[tactic(auto, using(crate::proofs::AbsorbPass::number_small))]
+fn alone(func: &[u32], work: &[u32], m: usize, i: usize) -> u32
     requires visited { Visited func.now work.now m }
     requires counted { Counted (func_of func.now) work.now }
     requires i_lt_m { i < m }
-    ensures value { result ≡ alone_word (func_of func.now) i }
-    ensures upper_bound { result ≤ 512 }
+    ensures { result ≡ alone_word (func_of func.now) i }
 {
     let q = number(work, POINTS, i);
-    if work[USES + q] == 0 {
-        return 0;
+    if word(work, USES, q) == 0 {
+        0
+    } else {
+        (q + 1) as u32
     }
-    q + 1
 }
 
 // The word of the point at i, which the one before it absorbs or not.
-fn status(func: &[u32], work: &[u32], m: usize, i: usize, joined: bool) -> usize
+#[tactic(auto, using(crate::proofs::AbsorbPass::status_before, crate::proofs::AbsorbPass::status_new))]
+fn status(func: &[u32], work: &[u32], m: usize, i: usize, joined: bool) -> u32
     requires visited { Visited func.now work.now m }
     requires counted { Counted (func_of func.now) work.now }
     requires absorb_words { AbsorbWords (func_of func.now) i work.now }
     requires i_lt_m { (i < m) × (joined ≡ absorbed (func_of func.now) i) }
-    ensures value { result ≡ status_word (stands (func_of func.now) i) (point_at (func_of func.now) i) }
-    ensures upper_bound { result < 4294967296 }
+    ensures { result ≡ status_word (stands (func_of func.now) i) (point_at (func_of func.now) i) }
 {
     if joined {
-        return wide(work[STATUSES + (i - 1)]);
+        word(work, STATUSES, i - 1)
+    } else {
+        alone(func, work, m, i)
     }
-    alone(func, work, m, i)
 }
 
 // The point at k has number t, one use and no phis.
+#[tactic(auto, using(crate::proofs::AbsorbPass::number_small, crate::proofs::AbsorbPass::join_uses, crate::proofs::AbsorbPass::join_all))]
 fn joins(func: &[u32], work: &[u32], m: usize, k: usize, t: usize) -> bool
     requires visited { Visited func.now work.now m }
     requires counted { Counted (func_of func.now) work.now }
@@ -57,13 +58,11 @@ fn joins(func: &[u32], work: &[u32], m: usize, k: usize, t: usize) -> bool
     if t != q {
         return false;
     }
-    if work[USES + q] != 1 {
-        return false;
-    }
-    phi_count(func, work, m, k) == 0
+    word(work, USES, q) == 1 && phi_count(func, work, m, k) == 0
 }
 
 // The point at i absorbs the next one.
+#[tactic(auto, using(crate::proofs::AbsorbPass::absorb_end, crate::proofs::AbsorbPass::absorb_none))]
 fn absorbs_next(func: &[u32], work: &[u32], m: usize, i: usize) -> bool
     requires visited { Visited func.now work.now m }
     requires counted { Counted (func_of func.now) work.now }
@@ -73,31 +72,24 @@ fn absorbs_next(func: &[u32], work: &[u32], m: usize, i: usize) -> bool
     if i + 1 == m {
         return false;
     }
-    let s = sole_target(func, work, m, i);
-    match s {
-        Sole::To(t) => joins(func, work, m, i + 1, t),
-        Sole::Nowhere => false,
+    match sole_target(func, work, m, i) {
+        Some(t) => joins(func, work, m, i + 1, t),
+        None => false,
     }
 }
 
-// A test as a word.
-fn bit(b: bool) -> u32
-    ensures { result ≡ absorb_word b }
-{
-    if b { 1 } else { 0 }
-}
-
 // The words of position i.
-fn put(work: &mut [u32], i: usize, s: usize, b: bool)
-    requires { (i < 512) × (s < 4294967296) × (absorbs_end ≤ length work.old) }
+fn put(work: &mut [u32], i: usize, s: u32, b: bool)
+    requires { (i < 512) × (absorbs_end ≤ length work.old) }
     ensures work_after { work.new ≡ set (set work.old (statuses_at + i) s) (absorbs_at + i) (absorb_word b) }
     ensures work_len_unchanged { length work.new ≡ length work.old }
 {
-    work[STATUSES + i] = s as u32;
-    work[ABSORBS + i] = bit(b);
+    work[STATUSES + i] = s;
+    work[ABSORBS + i] = u32::from(b);
 }
 
 // The words of all positions stand.
+
 pub fn absorb(func: &[u32], work: &mut [u32], m: usize)
     requires visited { Visited func.now work.old m }
     requires counted { Counted (func_of func.now) work.old }
@@ -109,11 +101,9 @@ pub fn absorb(func: &[u32], work: &mut [u32], m: usize)
     ensures work_len_unchanged { length work.new ≡ length work.old }
 {
     let mut joined = false;
-    let mut i = 0;
-    while i < m {
+    for i in 0..m {
         let s = status(func, work, m, i, joined);
         joined = absorbs_next(func, work, m, i);
         put(work, i, s, joined);
-        i += 1;
     }
 }

@@ -20,7 +20,7 @@ fn bump(work: &mut [u32], q: usize)
     ensures work_after { work.new ≡ set work.old (uses_at + q) (get_or work.old (uses_at + q) 0 + 1) }
     ensures work_len_unchanged { length work.new ≡ length work.old }
 {
-    work[USES + q] = work[USES + q] + 1;
+    work[USES + q] += 1;
 }
 
 // The labels of the i-th visited point are counted.
@@ -32,12 +32,9 @@ fn count_labels(func: &[u32], work: &mut [u32], m: usize, i: usize)
     ensures aside { Aside uses_at uses_end work.old work.new }
     ensures work_len_unchanged { length work.new ≡ length work.old }
 {
-    let count = label_count(func, work, m, i);
-    let mut j = 0;
-    while j < count {
+    for j in 0..label_count(func, work, m, i) {
         let q = label(func, work, m, i, j);
         bump(work, q);
-        j += 1;
     }
 }
 
@@ -49,10 +46,8 @@ fn count_all(func: &[u32], work: &mut [u32], m: usize)
     ensures aside { Aside uses_at uses_end work.old work.new }
     ensures work_len_unchanged { length work.new ≡ length work.old }
 {
-    let mut i = 0;
-    while i < m {
+    for i in 0..m {
         count_labels(func, work, m, i);
-        i += 1;
     }
 }
 

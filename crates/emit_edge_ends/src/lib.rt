@@ -16,8 +16,7 @@ ghost use Rattle.emit_edge_ends.specs.Aimed.{Aimed, any_of, sole_count};
 use func_look::{
     entry_count, entry_region, node_child, node_child_count, region_out_count, target, target_count,
 };
-use terminators::TermKind;
-use terminators::numbers::{node_end, node_start, region_start};
+use terminators::{Point, TermKind};
 
 // One, where there is just one target.
 fn sole_count(n: usize) -> usize
@@ -82,9 +81,9 @@ fn line_target(func: &[u32], c: usize, k: usize) -> usize
     ensures upper_bound { result < 512 }
 {
     if entry_count(func, c) == 0 {
-        return region_start(target(func, c, 0));
+        return Point::RegionEntry(target(func, c, 0)).number();
     }
-    region_start(entry_region(func, c, k))
+    Point::RegionEntry(entry_region(func, c, k)).number()
 }
 
 // Where edge k leads.
@@ -100,10 +99,10 @@ pub fn edge_target(func: &[u32], w: TermKind, k: usize) -> usize
         TermKind::Return(_) => 0,
         TermKind::Line(c) => line_target(func, c, k),
         TermKind::Leave(_) => 0,
-        TermKind::Select(n, _) => region_start(node_child(func, n, 0)),
-        TermKind::Loop(_, b, _) => region_start(b),
-        TermKind::Join(n, _) => node_end(n),
-        TermKind::Repeat(n, _) => node_start(n),
-        TermKind::Test(n, _) => node_start(n),
+        TermKind::Select(n, _) => Point::RegionEntry(node_child(func, n, 0)).number(),
+        TermKind::Loop(_, b, _) => Point::RegionEntry(b).number(),
+        TermKind::Join(n, _) => Point::NodeExit(n).number(),
+        TermKind::Repeat(n, _) => Point::NodeEntry(n).number(),
+        TermKind::Test(n, _) => Point::NodeEntry(n).number(),
     }
 }

@@ -44,13 +44,6 @@ pub enum CtrlKind {
     Exit,
 }
 
-// A ctrl line's number, or that there is none.
-#[derive(Clone, Copy)]
-pub enum CtrlAt {
-    At(usize),
-    Nothing,
-}
-
 // Counts of the pools that a line's lists go to.
 #[derive(Clone, Copy)]
 pub struct Marks {

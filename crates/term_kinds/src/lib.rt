@@ -1,7 +1,7 @@
 // The kind of the terminator at a visited point, and how many phis the entries of regions and nodes have.
 #![tactic(auto)]
 
-ghost use Rattle.std.specs.Prelude.{◌≡◌, true, ◌≤◌, ◌<◌, length};
+ghost use Rattle.std.specs.Prelude.{◌≡◌, true, SomeIff, ◌-◌, ◌≤◌, ◌<◌, length};
 ghost use Rattle.lifting.specs.Ast.{const};
 ghost use Rattle.lifting.specs.Parts.{node_of, children_of};
 ghost use Rattle.lifting.specs.Walk.{always, entry_keys, exit_term, in_block, top};
@@ -12,23 +12,20 @@ ghost use Rattle.general_laws.specs.Members.{In};
 ghost use Rattle.work.specs.Layout.{tables_end, parents_end};
 ghost use Rattle.walk_roots.specs.Tables.{Indexed};
 ghost use Rattle.lifting_blocks.specs.Follow.{goes_on};
-ghost use Rattle.walk_points.specs.Parents.{Parents};
+ghost use Rattle.walk_points.specs.Parents.{Parents, parent_word};
 ghost use Rattle.walk_points.specs.Walk.{Walkable};
 ghost use Rattle.terminators.specs.At.{visited_block, place_in, point_at};
 ghost use Rattle.terminators.specs.Visited.{Visited};
 ghost use Rattle.terminators.specs.Kinds.{TermIs, as_point, is_loop, out_of};
 
-use func::{CtrlAt, NodeKind, Val};
+use func::{NodeKind, Val};
 use func_look::{
     const_opcode, const_total, node_child, node_control, node_kind, node_value, region_in_count,
 };
-use func_pools::wide;
 use opcodes::{InstKind, opcode};
-use terminators::numbers::node_end;
 use terminators::{Point, TermKind};
-use walk_points::NODE_BASE;
 use walk_roots::tables::ctrl_at;
-use work::{PARENTS, POINTS, number, word};
+use work::{PARENTS, POINTS, number};
 
 // The i-th visited point.
 pub fn point(func: &[u32], work: &[u32], m: usize, i: usize) -> Point
@@ -36,18 +33,7 @@ pub fn point(func: &[u32], work: &[u32], m: usize, i: usize) -> Point
     requires i_lt_m { i < m }
     ensures { as_point result ≡ point_at (func_of func.now) i }
 {
-    let p = number(work, POINTS, i);
-    if p < NODE_BASE {
-        if p % 2 == 0 {
-            return Point::RegionEntry(p / 2);
-        }
-        return Point::RegionExit(p / 2);
-    }
-    let q = p - NODE_BASE;
-    if q % 2 == 0 {
-        return Point::NodeEntry(q / 2);
-    }
-    Point::NodeExit(q / 2)
+    Point::from(number(work, POINTS, i))
 }
 
 // Straight on to the next visited point, from the entry of a region and the exit of a node.
@@ -66,14 +52,7 @@ fn is_loop(func: &[u32], n: usize) -> bool
     requires n_in_bounds { n < length (func_of func.now).nodes }
     ensures { result ≡ is_loop (node_of (func_of func.now) n) }
 {
-    let kind = node_kind(func, n);
-    match kind {
-        NodeKind::Block => false,
-        NodeKind::SelectBool => false,
-        NodeKind::SelectInst => false,
-        NodeKind::Loop => true,
-        NodeKind::Exit => false,
-    }
+    node_kind(func, n) == NodeKind::Loop
 }
 
 // Constant k is true. A number that names no constant has opcode 0.
@@ -81,10 +60,7 @@ fn is_true(func: &[u32], k: usize) -> bool
     requires { Tables func.now }
     ensures { result ≡ always (func_of func.now) (const k) }
 {
-    if k < const_total(func) {
-        return const_opcode(func, k) == opcode(InstKind::ConstantTrue);
-    }
-    false
+    k < const_total(func) && const_opcode(func, k) == opcode(InstKind::ConstantTrue)
 }
 
 // A loop with the condition v never ends.
@@ -93,10 +69,8 @@ fn unconditional(func: &[u32], v: Val) -> bool
     ensures { result ≡ always (func_of func.now) (as_value v) }
 {
     match v {
-        Val::Const(k) => is_true(func, wide(k)),
-        Val::Input(_, _) => false,
-        Val::Output(_, _) => false,
-        Val::Result(_) => false,
+        Val::Const(k) => is_true(func, k as usize),
+        _ => false,
     }
 }
 
@@ -108,9 +82,10 @@ fn body_exit(func: &[u32], n: usize, r: usize) -> TermKind
     ensures { TermIs (func_of func.now) (out_of (func_of func.now) n r) result }
 {
     if unconditional(func, node_value(func, n, 0)) {
-        return TermKind::Repeat(n, r);
+        TermKind::Repeat(n, r)
+    } else {
+        TermKind::Test(n, r)
     }
-    TermKind::Test(n, r)
 }
 
 // Out of region r of node n, a loop or a select.
@@ -121,9 +96,10 @@ fn child_exit(func: &[u32], n: usize, r: usize) -> TermKind
     ensures { TermIs (func_of func.now) (out_of (func_of func.now) n r) result }
 {
     if is_loop(func, n) {
-        return body_exit(func, n, r);
+        body_exit(func, n, r)
+    } else {
+        TermKind::Join(n, r)
     }
-    TermKind::Join(n, r)
 }
 
 // Out of root r: by its ctrl line, or a return.
@@ -132,11 +108,19 @@ fn root_exit(func: &[u32], work: &[u32], r: usize) -> TermKind
     requires r_in_bounds { (r < length (func_of func.now).regions) × (r < 128) × (tables_end ≤ length work.now) }
     ensures { TermIs (func_of func.now) (exit_term (func_of func.now) r top) result }
 {
-    let c = ctrl_at(func, work, r);
-    match c {
-        CtrlAt::At(k) => TermKind::Line(k),
-        CtrlAt::Nothing => TermKind::Return(r),
+    match ctrl_at(func, work, r) {
+        Some(c) => TermKind::Line(c),
+        None => TermKind::Return(r),
     }
+}
+
+// The node around region r, if there is one. The table says so; the contract names the function.
+fn parent(func: &[u32], work: &[u32], r: usize) -> Option<usize>
+    requires parents { Parents (func_of func.now) work.now }
+    requires r_bound { (r < 128) × (parents_end ≤ length work.now) }
+    ensures { SomeIff result (1 ≤ parent_word (func_of func.now) r) (parent_word (func_of func.now) r - 1) }
+{
+    number(work, PARENTS, r).checked_sub(1)
 }
 
 // Out of region r.
@@ -146,11 +130,10 @@ fn region_exit(func: &[u32], work: &[u32], r: usize) -> TermKind
     requires r_in_bounds { (r < length (func_of func.now).regions) × (r < 128) × (parents_end ≤ length work.now) }
     ensures { TermIs (func_of func.now) (exit_term (func_of func.now) r (place_in (func_of func.now) r)) result }
 {
-    let n = number(work, PARENTS, r);
-    if n == 0 {
-        return root_exit(func, work, r);
+    match parent(func, work, r) {
+        Some(n) => child_exit(func, n, r),
+        None => root_exit(func, work, r),
     }
-    child_exit(func, n - 1, r)
 }
 
 // Into node n.
@@ -160,11 +143,9 @@ fn node_entry(func: &[u32], n: usize) -> TermKind
     requires n_in_bounds { n < length (func_of func.now).nodes }
     ensures { TermIs (func_of func.now) (in_block (func_of func.now) (node_of (func_of func.now) n) n).term result }
 {
-    let kind = node_kind(func, n);
-    match kind {
-        NodeKind::Block => TermKind::Straight(node_end(n)),
-        NodeKind::SelectBool => TermKind::Select(n, node_control(func, n)),
-        NodeKind::SelectInst => TermKind::Select(n, node_control(func, n)),
+    match node_kind(func, n) {
+        NodeKind::Block => TermKind::Straight(Point::NodeExit(n).number()),
+        NodeKind::SelectBool | NodeKind::SelectInst => TermKind::Select(n, node_control(func, n)),
         NodeKind::Loop => TermKind::Loop(n, node_child(func, n, 0), node_control(func, n)),
         NodeKind::Exit => TermKind::Leave(n),
     }
@@ -176,12 +157,10 @@ pub fn term_kind(func: &[u32], work: &[u32], m: usize, i: usize) -> TermKind
     requires i_lt_m { i < m }
     ensures { TermIs (func_of func.now) (visited_block (func_of func.now) i).term result }
 {
-    let p = point(func, work, m, i);
-    match p {
-        Point::RegionEntry(_) => onward(func, work, m, i),
+    match point(func, work, m, i) {
+        Point::RegionEntry(_) | Point::NodeExit(_) => onward(func, work, m, i),
         Point::RegionExit(r) => region_exit(func, work, r),
         Point::NodeEntry(n) => node_entry(func, n),
-        Point::NodeExit(_) => onward(func, work, m, i),
     }
 }
 
@@ -195,10 +174,10 @@ pub fn entry_phis(func: &[u32], work: &[u32], r: usize) -> usize
     if r == 0 {
         return 0;
     }
-    if word(work, PARENTS, r) != 0 {
-        return 0;
+    match parent(func, work, r) {
+        Some(_) => 0,
+        None => region_in_count(func, r),
     }
-    region_in_count(func, r)
 }
 
 // How many the entry of node n has: the inputs of a loop's body.
@@ -209,7 +188,8 @@ pub fn in_phis(func: &[u32], n: usize) -> usize
     ensures { result ≡ length (in_block (func_of func.now) (node_of (func_of func.now) n) n).keys }
 {
     if is_loop(func, n) {
-        return region_in_count(func, node_child(func, n, 0));
+        region_in_count(func, node_child(func, n, 0))
+    } else {
+        0
     }
-    0
 }

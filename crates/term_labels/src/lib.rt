@@ -13,7 +13,7 @@ ghost use Rattle.terminators.specs.Kinds.{as_sole};
 use func_look::node_out_count;
 use term_kinds::{entry_phis, in_phis, point, term_kind};
 use term_parts::{merge, merges, sole, target_at, targets};
-use terminators::{Point, Sole};
+use terminators::Point;
 
 // How many merge labels the i-th visited point has.
 pub fn merge_count(func: &[u32], work: &[u32], m: usize, i: usize) -> usize
@@ -64,13 +64,14 @@ pub fn label(func: &[u32], work: &[u32], m: usize, i: usize, k: usize) -> usize
     let w = term_kind(func, work, m, i);
     let c = merges(w);
     if k < c {
-        return merge(func, w, k);
+        merge(func, w, k)
+    } else {
+        target_at(func, w, k - c)
     }
-    target_at(func, w, k - c)
 }
 
 // Its only target, if it can be absorbed.
-pub fn sole_target(func: &[u32], work: &[u32], m: usize, i: usize) -> Sole
+pub fn sole_target(func: &[u32], work: &[u32], m: usize, i: usize) -> Option<usize>
     requires visited { Visited func.now work.now m }
     requires i_lt_m { i < m }
     ensures { result ≡ as_sole (sole_target (visited_block (func_of func.now) i).term) }
@@ -84,8 +85,7 @@ pub fn phi_count(func: &[u32], work: &[u32], m: usize, i: usize) -> usize
     requires i_lt_m { i < m }
     ensures { result ≡ length (visited_block (func_of func.now) i).keys }
 {
-    let p = point(func, work, m, i);
-    match p {
+    match point(func, work, m, i) {
         Point::RegionEntry(r) => entry_phis(func, work, r),
         Point::RegionExit(_) => 0,
         Point::NodeEntry(n) => in_phis(func, n),

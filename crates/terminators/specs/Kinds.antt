@@ -1,6 +1,6 @@
 -- The code's points and ways out as lifting's. Assumes nothing.
 --     merge_of_law       the merge of a way out by itself
-use Rattle.std.specs.Prelude.{◌≡◌, refl, Bool, true, false, List, [], ◌∷◌, map, ℕ, ◌<◌, length}
+use Rattle.std.specs.Prelude.{◌≡◌, refl, Option as Answer, Some, None, Bool, true, false, List, [], ◌∷◌, map, ℕ, ◌<◌, length}
 use Rattle.std.proofs.Math.Option.{Option, none, some}
 use Rattle.lifting.specs.Ast.{Func, Node, Value, block, select, loop, exit, branch}
 use Rattle.lifting.specs.Parts.{children_of, node_of, node_values, region_of}
@@ -16,8 +16,6 @@ use Rattle.terminators.specs.declared.Point.{Point}
 use Rattle.terminators.specs.declared.Point.TheVariants.{RegionEntry, RegionExit, NodeEntry, NodeExit}
 use Rattle.terminators.specs.declared.TermKind.{TermKind}
 use Rattle.terminators.specs.declared.TermKind.TheVariants.{Straight, Return, Line, Leave, Select, Loop, Join, Repeat, Test}
-use Rattle.terminators.specs.declared.Sole.{Sole}
-use Rattle.terminators.specs.declared.Sole.TheVariants.{To, Nowhere}
 
 abbrev pub as_point : Point → CfgPoint
 as_point (RegionEntry r) = region_entry r
@@ -25,9 +23,13 @@ as_point (RegionExit r) = region_exit r
 as_point (NodeEntry n) = node_entry n
 as_point (NodeExit n) = node_exit n
 
+-- the only target of a way out that can be absorbed, as the code answers it: by its number
+abbrev pub Sole : Type 0
+Sole = Answer ℕ
+
 abbrev pub as_sole : Option CfgPoint → Sole
-as_sole none = Nowhere
-as_sole (some p) = To (point_number p)
+as_sole none = None
+as_sole (some p) = Some (point_number p)
 
 abbrev pub merge_of : TermKind → Merge
 merge_of (Straight q) = no_merge
@@ -62,8 +64,8 @@ is_branch ExitCtrl = false
 
 -- the only target q of a region with the outputs vs, which takes no values along
 abbrev pub bare_sole : ℕ → List Value → Sole
-bare_sole q [] = To q
-bare_sole q (v ∷ vs) = Nowhere
+bare_sole q [] = Some q
+bare_sole q (v ∷ vs) = None
 
 module _ (F : Func) where
   -- out of region r of node n

@@ -2,7 +2,7 @@
 --     target-..      target i of each kind of way out
 --     sole-..        the only target, and that there is none
 --     label-..       labels are merges and then targets
-use Rattle.std.specs.Prelude.{◌≡◌, refl, true, false, List, [], ◌∷◌, ◌++◌, map, ℕ, zero, suc, ◌+◌, ◌-◌, ◌≤◌, ◌<◌, length, get_or}
+use Rattle.std.specs.Prelude.{◌≡◌, refl, Some, None, true, false, List, [], ◌∷◌, ◌++◌, map, ℕ, zero, suc, ◌+◌, ◌-◌, ◌≤◌, ◌<◌, length, get_or}
 use Rattle.std.proofs.Common.{sym, ap, subst, ◌∙◌, arith, length-append, get_or-append-add}
 use Rattle.std.proofs.lemmas.Bool.{false≢true}
 use Rattle.std.proofs.Math.Option.{Option, none, some}
@@ -20,9 +20,7 @@ use Rattle.func.specs.Kinds.{ctrl_kind}
 use Rattle.walk_points.specs.Numbers.{number_back, point_number}
 use Rattle.terminators.specs.declared.TermKind.{TermKind}
 use Rattle.terminators.specs.declared.TermKind.TheVariants.{Straight, Line, Leave, Select, Join, Repeat, Test}
-use Rattle.terminators.specs.declared.Sole.{Sole}
-use Rattle.terminators.specs.declared.Sole.TheVariants.{To, Nowhere}
-use Rattle.terminators.specs.Kinds.{Known, KindFits, TermIs, as_sole, bare_sole, is_branch, merge_of_law, merge_of, term_of}
+use Rattle.terminators.specs.Kinds.{Known, KindFits, TermIs, Sole, as_sole, bare_sole, is_branch, merge_of_law, merge_of, term_of}
 
 -- ---- what a way out names
 
@@ -163,34 +161,34 @@ module _ (c : ControlInst) where
   abbrev last : Option CfgPoint
   last = the_only (line_term c).targets
 
-  from_branch : if_branch c.kind (if_empty c.ins (if_empty vals last)) ≡ none → Sole-is Nowhere
+  from_branch : if_branch c.kind (if_empty c.ins (if_empty vals last)) ≡ none → Sole-is None
   from_branch e = sym (ap as_sole (ap (if_zero c.attrs) e ∙ zero_none c.attrs))
 
-  from_ins : if_empty c.ins (if_empty vals last) ≡ none → Sole-is Nowhere
+  from_ins : if_empty c.ins (if_empty vals last) ≡ none → Sole-is None
   from_ins e = from_branch (ap (if_branch c.kind) e ∙ branch_none c.kind)
 
-  from_vals : if_empty vals last ≡ none → Sole-is Nowhere
+  from_vals : if_empty vals last ≡ none → Sole-is None
   from_vals e = from_ins (ap (if_empty c.ins) e ∙ empty_none c.ins)
 
-  pub sole_attrs : ¬ (c.attrs ≡ 0) → Sole-is Nowhere
+  pub sole_attrs : ¬ (c.attrs ≡ 0) → Sole-is None
   sole_attrs h = sym (ap as_sole (zero_no c.attrs _ h))
 
-  pub sole_kind : is_branch (ctrl_kind c.kind) ≡ false → Sole-is Nowhere
+  pub sole_kind : is_branch (ctrl_kind c.kind) ≡ false → Sole-is None
   sole_kind h = from_branch (branch_no c.kind _ h)
 
-  pub sole_ins : ¬ (length c.ins ≡ 0) → Sole-is Nowhere
+  pub sole_ins : ¬ (length c.ins ≡ 0) → Sole-is None
   sole_ins h = from_ins (empty_no c.ins _ h)
 
-  pub sole_vals : ¬ (length c.vals ≡ 0) → Sole-is Nowhere
+  pub sole_vals : ¬ (length c.vals ≡ 0) → Sole-is None
   sole_vals h = from_vals (empty_no vals _ (λ e. h (sym (length-map c.vals _) ∙ e)))
 
-  pub sole_many : ¬ (length c.to ≡ 1) → Sole-is Nowhere
+  pub sole_many : ¬ (length c.to ≡ 1) → Sole-is None
   sole_many h = from_vals (ap (if_empty vals) (single_no (line_term c).targets (λ e. h (sym (length-map c.to region_entry) ∙ e))) ∙ empty_none vals)
 
   pub sole_one : c.attrs ≡ 0 → is_branch (ctrl_kind c.kind) ≡ true → length c.ins ≡ 0 → length c.vals ≡ 0 → length c.to ≡ 1
-      → {r q : ℕ} → r ≡ get_or c.to 0 0 → q ≡ point_number (region_entry r) → Sole-is (To q)
+      → {r q : ℕ} → r ≡ get_or c.to 0 0 → q ≡ point_number (region_entry r) → Sole-is (Some q)
   sole_one a k i v t er eq =
-      ap To (eq ∙ ap (λ (z : ℕ). point_number (region_entry z)) er ∙ sym (ap point_number (get_or-map region_entry c.to 0 0)))
+      ap Some (eq ∙ ap (λ (z : ℕ). point_number (region_entry z)) er ∙ sym (ap point_number (get_or-map region_entry c.to 0 0)))
       ∙ sym (ap as_sole (
       ap (λ (n : ℕ). if_zero n (if_branch c.kind (if_empty c.ins (if_empty vals last)))) a
       ∙ branch_yes c.kind _ k
@@ -198,11 +196,11 @@ module _ (c : ControlInst) where
       ∙ empty_yes vals _ (length-map c.vals _ ∙ v)
       ∙ single_yes (line_term c).targets (length-map c.to region_entry ∙ t)))
 
-pub bare_yes : (q : ℕ) (vs : List Value) → length vs ≡ 0 → To q ≡ bare_sole q vs
+pub bare_yes : (q : ℕ) (vs : List Value) → length vs ≡ 0 → Some q ≡ bare_sole q vs
 bare_yes q [] h = refl
 bare_yes q (v ∷ vs) h = absurd (omega arith)
 
-pub bare_no : (q : ℕ) (vs : List Value) → ¬ (length vs ≡ 0) → Nowhere ≡ bare_sole q vs
+pub bare_no : (q : ℕ) (vs : List Value) → ¬ (length vs ≡ 0) → None ≡ bare_sole q vs
 bare_no q [] h = absurd (h refl)
 bare_no q (v ∷ vs) h = refl
 
@@ -211,7 +209,7 @@ bare_sole_law p [] = refl
 bare_sole_law p (v ∷ vs) = refl
 
 -- no targets, or a merge
-barred : (k : ControlInstKind) (vs : List Value) → Nowhere ≡ as_sole (if_branch k (if_empty vs none))
+barred : (k : ControlInstKind) (vs : List Value) → None ≡ as_sole (if_branch k (if_empty vs none))
 barred k vs = sym (ap as_sole (ap (if_branch k) (empty_none vs) ∙ branch_none k))
 
 abbrev sole_of : Func → TermKind → Sole
@@ -221,13 +219,13 @@ module _ (F : Func) {x : TermKind} where
   pub sole_as : {y : TermKind} {s : Sole} → x ≡ y → s ≡ sole_of F y → s ≡ sole_of F x
   sole_as g e = e ∙ sym (ap (sole_of F) g)
 
-  pub sole_to : {q : ℕ} → x ≡ Straight q → To q ≡ sole_of F x
-  sole_to {q} g = sole_as g (ap To (sym (number_back q)))
+  pub sole_to : {q : ℕ} → x ≡ Straight q → Some q ≡ sole_of F x
+  sole_to {q} g = sole_as g (ap Some (sym (number_back q)))
 
-  pub sole_leave : {n : ℕ} → x ≡ Leave n → Nowhere ≡ sole_of F x
+  pub sole_leave : {n : ℕ} → x ≡ Leave n → None ≡ sole_of F x
   sole_leave {n} g = sole_as g (barred (in_block F (node_of F n) n).term.kind (node_values (node_of F n)))
 
-  pub sole_select : {n u : ℕ} → x ≡ Select n u → Nowhere ≡ sole_of F x
+  pub sole_select : {n u : ℕ} → x ≡ Select n u → None ≡ sole_of F x
   sole_select {n} g = sole_as g (barred (in_block F (node_of F n) n).term.kind (node_values (node_of F n)))
 
   pub sole_join : {n r : ℕ} → x ≡ Join n r → {s : Sole} {q : ℕ} → s ≡ bare_sole q (region_of F r).outs → q ≡ point_number (node_exit n) → s ≡ sole_of F x

@@ -2,7 +2,7 @@
 --     low_even, ..     a point by its number
 --     straight_on      the next visited point
 --     is_loop_law, in_way  a node by its kind
-use Rattle.std.specs.Prelude.{◌≡◌, refl, Bool, true, false, List, [], map, ℕ, zero, suc, ◌+◌, ◌-◌, ◌/◌, ◌%◌, ◌≤◌, ◌<◌, eqb, length, get_or}
+use Rattle.std.specs.Prelude.{◌≡◌, refl, Option as Answer, Some, None, Bool, true, false, List, [], map, ℕ, zero, suc, ◌+◌, ◌-◌, ◌/◌, ◌%◌, ◌≤◌, ◌<◌, eqb, length, get_or}
 use Rattle.std.proofs.Math.Path.{sym}
 use Rattle.std.proofs.Common.{ap, ap₂, subst, ◌∙◌, arith, eq-eqb, ne_eqb, lt-ltb, le-ltb}
 use Rattle.std.proofs.Math.Bool.{cond}
@@ -14,8 +14,6 @@ use Rattle.lifting.specs.Points.{BlockLifting, CfgPoint, Terminator, no_merge, s
 use Rattle.lifting.specs.Walk.{Place, always, child_term, entry_keys, exit_term, in_block, in_node, loop_term, root_term, top, walk_of}
 use Rattle.func.specs.declared.NodeKind.{NodeKind}
 use Rattle.func.specs.declared.NodeKind.TheVariants.{Block, SelectBool, SelectInst, Loop, Exit}
-use Rattle.func.specs.declared.CtrlAt.{CtrlAt}
-use Rattle.func.specs.declared.CtrlAt.TheVariants.{At, Nothing}
 use Rattle.func.specs.Search.{CtrlIs}
 use Rattle.func.specs.Decode.{first_value, func_of}
 use Rattle.func.specs.Tables.{Tables}
@@ -45,28 +43,25 @@ region = side region_entry region_exit
 abbrev node : Bool → ℕ → CfgPoint
 node = side node_entry node_exit
 
-module _ {w u : List ℕ} {m : ℕ} (k : Visited w u m) (i : ℕ) (h : i < m) {p : ℕ} (e : p ≡ get_or u (points_at + i) 0) where
-  here : point_of p ≡ point_at (func_of w) i
-  here = ap point_of e ∙ sym (point_read k i h)
-
-  low : p < node_base → {t : Bool} → eqb (p % 2) 0 ≡ t → region t p ≡ point_at (func_of w) i
+module _ (p : ℕ) where
+  low : p < node_base → {t : Bool} → eqb (p % 2) 0 ≡ t → region t p ≡ point_of p
   unfolding point_of
-  low l z = sym (ap₂ (λ (s t : Bool). cond s (region t p) (node (eqb ((p - node_base) % 2) 0) (p - node_base))) (lt-ltb p node_base l) z) ∙ here
+  low l z = sym (ap₂ (λ (s t : Bool). cond s (region t p) (node (eqb ((p - node_base) % 2) 0) (p - node_base))) (lt-ltb p node_base l) z)
 
-  high : node_base ≤ p → {t : Bool} → eqb ((p - node_base) % 2) 0 ≡ t → node t (p - node_base) ≡ point_at (func_of w) i
+  high : node_base ≤ p → {t : Bool} → eqb ((p - node_base) % 2) 0 ≡ t → node t (p - node_base) ≡ point_of p
   unfolding point_of
-  high l z = sym (ap₂ (λ (s t : Bool). cond s (region (eqb (p % 2) 0) p) (node t (p - node_base))) (le-ltb p node_base l) z) ∙ here
+  high l z = sym (ap₂ (λ (s t : Bool). cond s (region (eqb (p % 2) 0) p) (node t (p - node_base))) (le-ltb p node_base l) z)
 
-  pub low_even : p < node_base → p % 2 ≡ 0 → region_entry (p / 2) ≡ point_at (func_of w) i
+  pub low_even : p < node_base → p % 2 ≡ 0 → region_entry (p / 2) ≡ point_of p
   low_even l z = low l (eq-eqb (p % 2) 0 z)
 
-  pub low_odd : p < node_base → ¬ (p % 2 ≡ 0) → region_exit (p / 2) ≡ point_at (func_of w) i
+  pub low_odd : p < node_base → ¬ (p % 2 ≡ 0) → region_exit (p / 2) ≡ point_of p
   low_odd l z = low l (ne_eqb (p % 2) 0 z)
 
-  pub high_even : node_base ≤ p → (p - node_base) % 2 ≡ 0 → node_entry ((p - node_base) / 2) ≡ point_at (func_of w) i
+  pub high_even : node_base ≤ p → (p - node_base) % 2 ≡ 0 → node_entry ((p - node_base) / 2) ≡ point_of p
   high_even l z = high l (eq-eqb ((p - node_base) % 2) 0 z)
 
-  pub high_odd : node_base ≤ p → ¬ ((p - node_base) % 2 ≡ 0) → node_exit ((p - node_base) / 2) ≡ point_at (func_of w) i
+  pub high_odd : node_base ≤ p → ¬ ((p - node_base) % 2 ≡ 0) → node_exit ((p - node_base) / 2) ≡ point_of p
   high_odd l z = high l (ne_eqb ((p - node_base) % 2) 0 z)
 
 -- ---- the point at a position
@@ -83,6 +78,10 @@ module _ {w u : List ℕ} {m : ℕ} (k : Visited w u m) (i : ℕ) (h : i < m) wh
 
   pub block_of_law : {p : CfgPoint} → p ≡ point_at (func_of w) i → visited_block (func_of w) i ≡ block_of (func_of w) p (point_at (func_of w) (suc i))
   block_of_law e = block_is (func_of w) k.walkable i inside ∙ ap (λ (q : CfgPoint). block_of (func_of w) q (point_at (func_of w) (suc i))) (sym e)
+
+  -- its phis
+  pub keys_law : {p : CfgPoint} → p ≡ point_at (func_of w) i → length (block_of (func_of w) p (point_at (func_of w) (suc i))).keys ≡ length (visited_block (func_of w) i).keys
+  keys_law e = sym (ap (λ (b : BlockLifting). length b.keys) (block_of_law e))
 
   -- the way out of a point from that of its block
   pub way_of : {p : CfgPoint} {x : TermKind} → p ≡ point_at (func_of w) i → TermIs (func_of w) (block_of (func_of w) p (point_at (func_of w) (suc i))).term x
@@ -169,14 +168,14 @@ module _ (F : Func) where
 
   -- ---- ways out of regions
 
-  pub line_way : (r : ℕ) {x : CtrlAt} {c : ℕ} → x ≡ At c → CtrlIs x F r → TermIs F (exit_term F r top) (Line c)
+  pub line_way : (r : ℕ) {x : Answer ℕ} {c : ℕ} → x ≡ Some c → CtrlIs x F r → TermIs F (exit_term F r top) (Line c)
   line_way r {x} {c} e h =
-      let l : CtrlIs (At c) F r = subst (λ (y : CtrlAt). CtrlIs y F r) e h in
+      let l : CtrlIs (Some c) F r = subst (λ (y : Answer ℕ). CtrlIs y F r) e h in
       record { is = ap (λ (o : Option ControlInst). root_term F o r) l.is; fits = l.below }
 
-  pub return_way : {r : ℕ} {x : CtrlAt} → r < length F.regions → x ≡ Nothing → CtrlIs x F r → TermIs F (exit_term F r top) (Return r)
+  pub return_way : {r : ℕ} {x : Answer ℕ} → r < length F.regions → x ≡ None → CtrlIs x F r → TermIs F (exit_term F r top) (Return r)
   return_way {r} {x} l e h =
-      let n : CtrlIs Nothing F r = subst (λ (y : CtrlAt). CtrlIs y F r) e h in
+      let n : CtrlIs None F r = subst (λ (y : Answer ℕ). CtrlIs y F r) e h in
       record { is = ap (λ (o : Option ControlInst). root_term F o r) n; fits = l }
 
   back_term : (d : Node) (n : ℕ) (vs : List Value) (t : Bool) → is_loop d ≡ true → t ≡ always F (get_or (node_values d) 0 (const 0))

@@ -28,10 +28,3 @@ pub enum TermKind {
     Repeat(usize, usize),
     Test(usize, usize),
 }
-
-// The only target of a way out that can be absorbed, as a point's number.
-#[derive(Clone, Copy)]
-pub enum Sole {
-    To(usize),
-    Nowhere,
-}

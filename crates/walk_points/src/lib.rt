@@ -22,7 +22,6 @@ ghost use Rattle.walk_points.specs.Words.{WalkWords};
 
 use crate::parents::parents;
 use func_look::{node_child, node_child_count, region_node, region_node_count};
-use func_pools::wide;
 use walk_roots::walk::reached;
 use work::{POINTS, ROOTS_END};
 
@@ -49,11 +48,8 @@ fn walk_region(func: &[u32], work: &mut [u32], r: usize, m: usize) -> usize
     ensures work_len_unchanged { length work.new ≡ length work.old }
 {
     let mut at = put(work, m, 2 * r);
-    let count = region_node_count(func, r);
-    let mut i = 0;
-    while i < count {
+    for i in 0..region_node_count(func, r) {
         at = walk_node(func, work, region_node(func, r, i), at);
-        i += 1;
     }
     put(work, at, 2 * r + 1)
 }
@@ -68,11 +64,8 @@ fn walk_node(func: &[u32], work: &mut [u32], n: usize, m: usize) -> usize
     ensures work_len_unchanged { length work.new ≡ length work.old }
 {
     let mut at = put(work, m, NODE_BASE + 2 * n);
-    let count = node_child_count(func, n);
-    let mut i = 0;
-    while i < count {
+    for i in 0..node_child_count(func, n) {
         at = walk_region(func, work, node_child(func, n, i), at);
-        i += 1;
     }
     put(work, at, NODE_BASE + 2 * n + 1)
 }
@@ -82,7 +75,7 @@ fn root(work: &[u32], n: usize, i: usize) -> usize
     requires { (n ≤ roots_end) × (i < n) × (roots_end ≤ length work.now) }
     ensures { result ≡ get_or work.now (roots_end - n + i) 0 }
 {
-    wide(work[ROOTS_END - n + i])
+    work[ROOTS_END - n + i] as usize
 }
 
 // The points of the n roots that stand at the end of their table: how many there are.
@@ -95,10 +88,8 @@ fn walk_roots(func: &[u32], work: &mut [u32], n: usize) -> usize
     ensures work_len_unchanged { length work.new ≡ length work.old }
 {
     let mut at = 0;
-    let mut i = 0;
-    while i < n {
+    for i in 0..n {
         at = walk_region(func, work, root(work, n, i), at);
-        i += 1;
     }
     at
 }

@@ -20,9 +20,7 @@ fn adopt(func: &[u32], n: usize, work: &mut [u32])
     ensures aside { Aside parents_at parents_end work.old work.new }
     ensures work_len_unchanged { length work.new ≡ length work.old }
 {
-    let mut i = node_child_count(func, n);
-    while 0 < i {
-        i -= 1;
+    for i in (0..node_child_count(func, n)).rev() {
         let r = node_child(func, n, i);
         work[PARENTS + r] = (n + 1) as u32;
     }
@@ -38,9 +36,7 @@ pub fn parents(func: &[u32], work: &mut [u32])
     ensures work_len_unchanged { length work.new ≡ length work.old }
 {
     clear(work, PARENTS, PARENTS_END);
-    let mut i = node_total(func);
-    while 0 < i {
-        i -= 1;
+    for i in (0..node_total(func)).rev() {
         adopt(func, i, work);
     }
 }

@@ -11,8 +11,7 @@ use lib.Seq.{get_or-set_same, get_or-set_other}
 use Rattle.general_laws.specs.Lists.{within}
 use Rattle.lifting.specs.Ast.{Func}
 use Rattle.lifting.specs.Order.{Seen, targets_of, visits, visit_if, visit, roots}
-use Rattle.func.specs.declared.CtrlAt.{CtrlAt}
-use Rattle.func.specs.declared.CtrlAt.TheVariants.{At, Nothing}
+use Rattle.std.specs.Prelude.{Option, Some, None}
 use Rattle.func.specs.Search.{CtrlIs, CtrlHere}
 use Rattle.func.specs.Decode.{func_of}
 use Rattle.func.specs.Tables.{Tables, ctrl_line_of}
@@ -24,14 +23,14 @@ use Rattle.walk_roots.specs.Visit.{ways, last_roots, unseen, unseen_same, unseen
 
 -- a ctrl line that was found, or none
 module _ (F : Func) (r : ℕ) where
-  pub here : {x : CtrlAt} {i : ℕ} → x ≡ At i → CtrlIs x F r → CtrlHere F r i
-  here e h = subst (λ (y : CtrlAt). CtrlIs y F r) e h
+  pub here : {x : Option ℕ} {i : ℕ} → x ≡ Some i → CtrlIs x F r → CtrlHere F r i
+  here e h = subst (λ (y : Option ℕ). CtrlIs y F r) e h
 
   pub here_ways : {i : ℕ} → CtrlHere F r i → ways F r ≡ (ctrl_line_of F i).1.to
   here_ways h = ap targets_of h.is
 
-  pub no_ways : {x : CtrlAt} → x ≡ Nothing → CtrlIs x F r → ways F r ≡ []
-  no_ways e h = ap targets_of (subst (λ (y : CtrlAt). CtrlIs y F r) e h)
+  pub no_ways : {x : Option ℕ} → x ≡ None → CtrlIs x F r → ways F r ≡ []
+  no_ways e h = ap targets_of (subst (λ (y : Option ℕ). CtrlIs y F r) e h)
 
 -- a target of a root names a region
 pub way_low : {F : Func} {w : List ℕ} → RegionsNamed F → Indexed F w → (r : ℕ) → r < 128 → (i : ℕ) → i < length (ways F r) → get_or (ways F r) i 0 < length F.regions

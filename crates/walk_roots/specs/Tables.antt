@@ -3,7 +3,7 @@
 --     marked-..      marks that are set one after the other, and what they say
 --     line_none, line_here, line_known     what the word of a region says of its ctrl line
 --     line_words_more, once_more     the table of ctrl lines, filled from the last line to the first
-use Rattle.std.specs.Prelude.{◌≡◌, refl, Bool, true, false, cond, not, ◌&&◌, List, [], ◌∷◌, ℕ, suc, ◌+◌, ◌≤◌, ◌<◌, eqb, length, get_or, set, drop}
+use Rattle.std.specs.Prelude.{◌≡◌, refl, Bool, true, false, cond, not, ◌&&◌, Option, Some, None, SomeIff, List, [], ◌∷◌, ℕ, suc, ◌+◌, ◌-◌, ◌≤◌, ◌<◌, eqb, length, get_or, set, drop}
 use Rattle.std.proofs.Common.{sym, ap, subst, ◌∙◌, add-one, arith, drop-cons, get_or-set_same, get_or-set_other, ne_eqb}
 use Rattle.std.proofs.Math.Option.{none, some}
 use Rattle.std.proofs.Math.Decide.{ℕ_discrete}
@@ -12,7 +12,7 @@ use Rattle.general_laws.specs.Lists.{choose, choose_yes, choose_no, find, within
 use Rattle.lifting.specs.Ast.{unreachable, ControlInst, Func}
 use Rattle.lifting.specs.Parts.{node_of, children_of, ctrl_of}
 use Rattle.func.specs.Tables.{ctrl_line_of}
-use Rattle.func.specs.Search.{CtrlHere}
+use Rattle.func.specs.Search.{CtrlHere, CtrlIs}
 use Rattle.work.specs.Layout.{lines_at, children_at, tables_end, marks_at}
 use Rattle.general_laws.specs.Tests.{split}
 use Rattle.work.specs.Aside.{Aside, Cleared}
@@ -161,6 +161,11 @@ module _ {F : Func} {w : List ℕ} (k : Indexed F w) (r : ℕ) (h : r < 128) whe
       let f = line_found r 0 c F.ctrls no_line (sym (k.line r h) ∙ e) in
       let q : f.at ≡ c = omega (arith, f.is) in
       subst (CtrlHere F r) q (record { below = f.below; region = f.region; is = f.first })
+
+  -- the number of its line is one less than its word
+  pub line_is : {v : ℕ} → v ≡ get_or w (lines_at + r) 0 → (x : Option ℕ) → SomeIff x (1 ≤ v) (v - 1) → CtrlIs x F r
+  line_is e None g = line_none (sym e ∙ omega arith)
+  line_is {v} e (Some c) g = line_here c (sym e ∙ omega arith)
 
   pub line_known : within r (keys F.ctrls) ≡ not (eqb (get_or w (lines_at + r) 0) 0)
   line_known = line_within r 0 F.ctrls ∙ ap (λ (v : ℕ). not (eqb v 0)) (sym (k.line r h))

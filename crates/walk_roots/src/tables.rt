@@ -10,9 +10,7 @@ ghost use Rattle.work.specs.Layout.{lines_at, children_at, marks_at, tables_end}
 ghost use Rattle.work.specs.Aside.{Aside};
 ghost use Rattle.walk_roots.specs.Tables.{RegionsNamed, TablesBlank, Indexed, RegionsMarked};
 
-use func::CtrlAt;
 use func_look::{ctrl_region, ctrl_total, node_child, node_child_count, node_total};
-use func_pools::wide;
 use work::{CHILDREN, LINES, TABLES_END, clear};
 
 // Line c is region r's: whether no later line is.
@@ -38,9 +36,7 @@ fn put_lines(func: &[u32], work: &mut [u32]) -> bool
     ensures work_len_unchanged { length work.new ≡ length work.old }
 {
     let mut once = true;
-    let mut i = ctrl_total(func);
-    while 0 < i {
-        i -= 1;
+    for i in (0..ctrl_total(func)).rev() {
         let r = ctrl_region(func, i);
         if !put_line(work, r, i) {
             once = false;
@@ -65,16 +61,12 @@ pub fn index(func: &[u32], work: &mut [u32]) -> bool
 }
 
 // The ctrl line of region r, if it has one. The table says so; the contract names the function.
-pub fn ctrl_at(func: &[u32], work: &[u32], r: usize) -> CtrlAt
+pub fn ctrl_at(func: &[u32], work: &[u32], r: usize) -> Option<usize>
     requires indexed { Indexed (func_of func.now) work.now }
     requires r_bound { (r < 128) × (tables_end ≤ length work.now) }
     ensures { CtrlIs result (func_of func.now) r }
 {
-    let c = wide(work[LINES + r]);
-    if c == 0 {
-        return CtrlAt::Nothing;
-    }
-    CtrlAt::At(c - 1)
+    (work[LINES + r] as usize).checked_sub(1)
 }
 
 // The children of node n are marked.
@@ -86,9 +78,7 @@ fn mark_node(func: &[u32], n: usize, work: &mut [u32])
     ensures aside { Aside children_at marks_at work.old work.new }
     ensures work_len_unchanged { length work.new ≡ length work.old }
 {
-    let mut i = node_child_count(func, n);
-    while 0 < i {
-        i -= 1;
+    for i in (0..node_child_count(func, n)).rev() {
         let r = node_child(func, n, i);
         work[CHILDREN + r] = 1;
     }
@@ -103,9 +93,7 @@ pub fn mark_nodes(func: &[u32], work: &mut [u32])
     ensures aside { Aside children_at marks_at work.old work.new }
     ensures work_len_unchanged { length work.new ≡ length work.old }
 {
-    let mut i = node_total(func);
-    while 0 < i {
-        i -= 1;
+    for i in (0..node_total(func)).rev() {
         mark_node(func, i, work);
     }
 }

@@ -10,9 +10,8 @@ ghost use Rattle.walk_roots.specs.Tables.{RegionsNamed, Indexed, RegionsMarked};
 ghost use Rattle.walk_roots.specs.Visit.{ways, last_roots, RootsLow, WalkReady, RootsVisited};
 
 use crate::tables::{ctrl_at, index};
-use func::CtrlAt;
 use func_look::{target, target_count};
-use work::{MARKS, ROOTS_END};
+use work::{MARKS, ROOTS_END, word};
 
 // How many targets root r has.
 fn way_count(func: &[u32], work: &[u32], r: usize) -> usize
@@ -21,10 +20,9 @@ fn way_count(func: &[u32], work: &[u32], r: usize) -> usize
     requires r_bound { (r < 128) × (tables_end ≤ length work.now) }
     ensures { result ≡ length (ways (func_of func.now) r) }
 {
-    let c = ctrl_at(func, work, r);
-    match c {
-        CtrlAt::At(i) => target_count(func, i),
-        CtrlAt::Nothing => 0,
+    match ctrl_at(func, work, r) {
+        Some(c) => target_count(func, c),
+        None => 0,
     }
 }
 
@@ -36,10 +34,9 @@ fn way(func: &[u32], work: &[u32], r: usize, i: usize) -> usize
     requires i_in_bounds { i < length (ways (func_of func.now) r) }
     ensures { result ≡ get_or (ways (func_of func.now) r) i 0 }
 {
-    let c = ctrl_at(func, work, r);
-    match c {
-        CtrlAt::At(k) => target(func, k, i),
-        CtrlAt::Nothing => 0,
+    match ctrl_at(func, work, r) {
+        Some(c) => target(func, c, i),
+        None => 0,
     }
 }
 
@@ -49,14 +46,6 @@ fn set_mark(work: &mut [u32], r: usize)
     ensures { work.new ≡ set work.old (marks_at + r) 1 }
 {
     work[MARKS + r] = 1;
-}
-
-// Root r's mark.
-fn mark_of(work: &[u32], r: usize) -> u32
-    requires { (r < 128) × (tables_end ≤ length work.now) }
-    ensures { result ≡ get_or work.now (marks_at + r) 0 }
-{
-    work[MARKS + r]
 }
 
 // Root r is done, after n others.
@@ -77,11 +66,9 @@ fn visit(func: &[u32], work: &mut [u32], r: usize, n: usize) -> usize
 {
     set_mark(work, r);
     let mut at = n;
-    let mut i = way_count(func, work, r);
-    while 0 < i {
-        i -= 1;
+    for i in (0..way_count(func, work, r)).rev() {
         let t = way(func, work, r, i);
-        if mark_of(work, t) == 0 {
+        if word(work, MARKS, t) == 0 {
             at = visit(func, work, t, at);
         }
     }

@@ -5,11 +5,8 @@ use native.Mathlib.Omega.{arith}
 use Rattle.func.specs.Decode.{func_of}
 use Rattle.work.specs.Aside.{aside_more}
 use Rattle.block_uses.specs.Uses.{counted_all, tally_cleared}
-use Rattle.block_uses.proofs.Counting.{first_aside, first_room, first_tallied, visited_aside}
+use Rattle.block_uses.proofs.Counting.{first_aside, first_tallied, visited_aside}
 use Rattle.block_uses.proofs.count_uses.Goals as goal
-
-pub bump-requires : goal.bump-requires
-bump-requires c = record { q_bound = omega (arith, c.requires.size, c.clear.ensures.work_len_unchanged); q_bound_2 = first_room (tally_cleared c.clear.ensures.cleared) }
 
 pub count_all-requires : goal.count_all-requires
 count_all-requires c =

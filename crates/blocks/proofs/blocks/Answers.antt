@@ -4,8 +4,8 @@ use mathlib.Core.Path.{◌∙◌}
 use Rattle.blocks.specs.Words.{visited_still, block_words, walkable_stands}
 use Rattle.blocks.proofs.blocks.Goals as goal
 
-pub lay_out-m-requires : goal.lay_out-m-requires
-lay_out-m-requires c = record { tables = c.requires.stands.tables; walkable = walkable_stands c.requires.stands c.requires.regions_nonzero; work_need_in_bounds = c.requires.work_need_in_bounds }
+pub lay_out-m-requires-clause-walkable : goal.lay_out-m-requires-clause-walkable
+lay_out-m-requires-clause-walkable c = walkable_stands c.requires.stands c.requires.regions_nonzero
 
 pub returns : goal.returns
 returns c = record { visited = visited_still c.lay_out-m.ensures.visited c.lay_out-m.ensures.lay_words c.clear.ensures.cleared c.clear-2.ensures.cleared (c.clear-2.ensures.work_len_unchanged ∙ c.clear.ensures.work_len_unchanged); block_words = block_words c.lay_out-m.ensures.visited c.lay_out-m.ensures.lay_words c.clear.ensures.cleared c.clear-2.ensures.cleared; work_len_unchanged = c.clear-2.ensures.work_len_unchanged ∙ c.clear.ensures.work_len_unchanged ∙ c.lay_out-m.ensures.work_len_unchanged }

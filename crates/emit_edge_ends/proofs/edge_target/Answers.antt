@@ -17,22 +17,22 @@ line_target-requires c = record { tables = c.requires.known.tables; walkable = (
 pub node_child-requires : goal.node_child-requires
 node_child-requires c = record { tables = c.requires.known.tables; n_in_bounds = fits_as c.requires.known c.in-Select.is; i_in_bounds = (edge_case (func_of c.args.func.now) c.args.k c.requires.k_in_bounds c.in-Select.is).0 }
 
-pub region_start-requires : goal.region_start-requires
-region_start-requires c =
+pub number-requires : goal.number-requires
+number-requires c =
     let some = (edge_case (func_of c.args.func.now) c.args.k c.requires.k_in_bounds c.in-Select.is).0 in
     omega (arith, c.node_child.ensures, c.requires.known.walkable.named.few, c.requires.known.walkable.named.child c.in-Select.n 0 (fits_as c.requires.known c.in-Select.is) some)
 
-pub region_start-requires-in-Loop : goal.region_start-requires-in-Loop
-region_start-requires-in-Loop c = low_region c.requires.known (fits_as c.requires.known c.in-Loop.is).1
+pub number-requires-in-Loop : goal.number-requires-in-Loop
+number-requires-in-Loop c = low_region c.requires.known (fits_as c.requires.known c.in-Loop.is).1
 
-pub node_end-requires : goal.node_end-requires
-node_end-requires c = low_node c.requires.known.tables (fits_as c.requires.known c.in-Join.is).0
+pub number-requires-in-Join : goal.number-requires-in-Join
+number-requires-in-Join c = low_node c.requires.known.tables (fits_as c.requires.known c.in-Join.is).0
 
-pub node_start-requires : goal.node_start-requires
-node_start-requires c = low_node c.requires.known.tables (fits_as c.requires.known c.in-Repeat.is).0
+pub number-requires-in-Repeat : goal.number-requires-in-Repeat
+number-requires-in-Repeat c = low_node c.requires.known.tables (fits_as c.requires.known c.in-Repeat.is).0
 
-pub node_start-requires-in-Test : goal.node_start-requires-in-Test
-node_start-requires-in-Test c = low_node c.requires.known.tables (fits_as c.requires.known c.in-Test.is).0
+pub number-requires-in-Test : goal.number-requires-in-Test
+number-requires-in-Test c = low_node c.requires.known.tables (fits_as c.requires.known c.in-Test.is).0
 
 pub returns-in-Straight : goal.returns-in-Straight
 returns-in-Straight c = record { value = edge_one (func_of c.args.func.now) c.args.k c.requires.k_in_bounds c.in-Straight.is refl (sym (number_back c.in-Straight.q)); upper_bound = fits_as c.requires.known c.in-Straight.is }
@@ -44,19 +44,19 @@ pub returns-in-Select : goal.returns-in-Select
 returns-in-Select c =
     let e = edge_case (func_of c.args.func.now) c.args.k c.requires.k_in_bounds c.in-Select.is in
     record {
-      value = c.region_start.ensures ∙ ap (λ (r : ℕ). point_number (region_entry r)) c.node_child.ensures ∙ sym e.1;
+      value = c.number.ensures ∙ ap (λ (r : ℕ). point_number (region_entry r)) c.node_child.ensures ∙ sym e.1;
       upper_bound = omega
-          (arith, c.region_start.ensures, c.node_child.ensures, c.requires.known.walkable.named.few, c.requires.known.walkable.named.child c.in-Select.n 0 (fits_as c.requires.known c.in-Select.is) e.0);
+          (arith, c.number.ensures, c.node_child.ensures, c.requires.known.walkable.named.few, c.requires.known.walkable.named.child c.in-Select.n 0 (fits_as c.requires.known c.in-Select.is) e.0);
     }
 
 pub returns-in-Loop : goal.returns-in-Loop
-returns-in-Loop c = record { value = edge_one (func_of c.args.func.now) c.args.k c.requires.k_in_bounds c.in-Loop.is refl c.region_start-in-Loop.ensures; upper_bound = omega (arith, c.region_start-in-Loop.ensures, low_region c.requires.known (fits_as c.requires.known c.in-Loop.is).1) }
+returns-in-Loop c = record { value = edge_one (func_of c.args.func.now) c.args.k c.requires.k_in_bounds c.in-Loop.is refl c.number-in-Loop.ensures; upper_bound = omega (arith, c.number-in-Loop.ensures, low_region c.requires.known (fits_as c.requires.known c.in-Loop.is).1) }
 
 pub returns-in-Join : goal.returns-in-Join
-returns-in-Join c = record { value = edge_join (func_of c.args.func.now) c.args.k c.requires.k_in_bounds c.in-Join.is c.node_end.ensures; upper_bound = omega (arith, c.node_end.ensures, low_node c.requires.known.tables (fits_as c.requires.known c.in-Join.is).0) }
+returns-in-Join c = record { value = edge_join (func_of c.args.func.now) c.args.k c.requires.k_in_bounds c.in-Join.is c.number-in-Join.ensures; upper_bound = omega (arith, c.number-in-Join.ensures, low_node c.requires.known.tables (fits_as c.requires.known c.in-Join.is).0) }
 
 pub returns-in-Repeat : goal.returns-in-Repeat
-returns-in-Repeat c = record { value = edge_repeat (func_of c.args.func.now) c.args.k c.requires.k_in_bounds c.in-Repeat.is c.node_start.ensures; upper_bound = omega (arith, c.node_start.ensures, low_node c.requires.known.tables (fits_as c.requires.known c.in-Repeat.is).0) }
+returns-in-Repeat c = record { value = edge_repeat (func_of c.args.func.now) c.args.k c.requires.k_in_bounds c.in-Repeat.is c.number-in-Repeat.ensures; upper_bound = omega (arith, c.number-in-Repeat.ensures, low_node c.requires.known.tables (fits_as c.requires.known c.in-Repeat.is).0) }
 
 pub returns-in-Test : goal.returns-in-Test
-returns-in-Test c = record { value = edge_test (func_of c.args.func.now) c.args.k c.requires.k_in_bounds c.in-Test.is c.node_start-in-Test.ensures; upper_bound = omega (arith, c.node_start-in-Test.ensures, low_node c.requires.known.tables (fits_as c.requires.known c.in-Test.is).0) }
+returns-in-Test c = record { value = edge_test (func_of c.args.func.now) c.args.k c.requires.k_in_bounds c.in-Test.is c.number-in-Test.ensures; upper_bound = omega (arith, c.number-in-Test.ensures, low_node c.requires.known.tables (fits_as c.requires.known c.in-Test.is).0) }

@@ -15,8 +15,8 @@ target-requires c =
     let l = (ctrl_line_of (func_of c.args.func.now) c.args.c).1 in
     record { tables = c.requires.tables; c_in_bounds = c.requires.c_in_bounds; i_in_bounds = (line_sole l c.args.k c.requires.k_in_bounds (sym c.entry_count.ensures ∙ c.if-entry_count-eq0.true)).0 }
 
-pub region_start-requires : goal.region_start-requires
-region_start-requires c =
+pub number-requires : goal.number-requires
+number-requires c =
     let l = (ctrl_line_of (func_of c.args.func.now) c.args.c).1 in
     let some = (line_sole l c.args.k c.requires.k_in_bounds (sym c.entry_count.ensures ∙ c.if-entry_count-eq0.true)).0 in
     omega (arith, c.target.ensures, c.requires.walkable.0.named.few, c.requires.walkable.0.named.target c.args.c 0 c.requires.c_in_bounds some)
@@ -26,9 +26,9 @@ returns-then-entry_count-eq0 c =
     let l = (ctrl_line_of (func_of c.args.func.now) c.args.c).1 in
     let e = line_sole l c.args.k c.requires.k_in_bounds (sym c.entry_count.ensures ∙ c.if-entry_count-eq0.true) in
     record {
-      value = c.region_start.ensures ∙ ap (λ (r : ℕ). point_number (region_entry r)) c.target.ensures ∙ sym e.1;
+      value = c.number.ensures ∙ ap (λ (r : ℕ). point_number (region_entry r)) c.target.ensures ∙ sym e.1;
       upper_bound = omega
-          (arith, c.region_start.ensures, c.target.ensures, c.requires.walkable.0.named.few, c.requires.walkable.0.named.target c.args.c 0 c.requires.c_in_bounds e.0);
+          (arith, c.number.ensures, c.target.ensures, c.requires.walkable.0.named.few, c.requires.walkable.0.named.target c.args.c 0 c.requires.c_in_bounds e.0);
     }
 
 pub entry_region-requires : goal.entry_region-requires
@@ -36,8 +36,8 @@ entry_region-requires c =
     let l = (ctrl_line_of (func_of c.args.func.now) c.args.c).1 in
     record { tables = c.requires.tables; c_in_bounds = c.requires.c_in_bounds; e_in_bounds = (line_entry l c.args.k c.requires.k_in_bounds (λ e. c.if-entry_count-eq0.false (c.entry_count.ensures ∙ e))).0 }
 
-pub region_start-requires-2 : goal.region_start-requires-2
-region_start-requires-2 c =
+pub number-requires-2 : goal.number-requires-2
+number-requires-2 c =
     let l = (ctrl_line_of (func_of c.args.func.now) c.args.c).1 in
     let low = (line_entry l c.args.k c.requires.k_in_bounds (λ e. c.if-entry_count-eq0.false (c.entry_count.ensures ∙ e))).0 in
     omega (arith, c.entry_region.ensures, c.requires.walkable.0.named.few, c.requires.walkable.1.entry c.args.c c.args.k c.requires.c_in_bounds low)
@@ -47,7 +47,7 @@ returns c =
     let l = (ctrl_line_of (func_of c.args.func.now) c.args.c).1 in
     let e = line_entry l c.args.k c.requires.k_in_bounds (λ e. c.if-entry_count-eq0.false (c.entry_count.ensures ∙ e)) in
     record {
-      value = c.region_start-2.ensures ∙ ap (λ (r : ℕ). point_number (region_entry r)) c.entry_region.ensures ∙ sym e.1;
+      value = c.number-2.ensures ∙ ap (λ (r : ℕ). point_number (region_entry r)) c.entry_region.ensures ∙ sym e.1;
       upper_bound = omega
-          (arith, c.region_start-2.ensures, c.entry_region.ensures, c.requires.walkable.0.named.few, c.requires.walkable.1.entry c.args.c c.args.k c.requires.c_in_bounds e.0);
+          (arith, c.number-2.ensures, c.entry_region.ensures, c.requires.walkable.0.named.few, c.requires.walkable.1.entry c.args.c c.args.k c.requires.c_in_bounds e.0);
     }

@@ -1,8 +1,5 @@
 -- From such a point the walk goes on to the point that it visits next (`straight_on`).
-use mathlib.Core.Path.{◌≡◌, ap, ◌∙◌}
-use Prim.Native.Nat.{ℕ, ◌+◌}
-use native.Mathlib.Omega.{arith}
-use lib.ListN.{get_or}
+use Rattle.std.proofs.Common.{◌≡◌, ℕ, ◌+◌, get_or, ap, ◌∙◌, arith}
 use Rattle.work.specs.Layout.{points_at}
 use Rattle.terminators.specs.Laws.{straight_on}
 use Rattle.term_kinds.proofs.onward.Goals as goal

@@ -1,7 +1,7 @@
 -- The loop of each has appended the points of what it has gone through, between the entry and the exit.
-use Rattle.std.proofs.Common.{◌∙◌, arith}
+use Rattle.std.proofs.Common.{arith}
 use Rattle.walk_points.specs.Below.{region_words_law, node_words_law}
-use Rattle.walk_points.proofs.Laws.{walking_first, walking_length, walking_call, walking_next, walking_done, region_room, node_room, region_holds, node_holds, region_exit_law, node_exit_law}
+use Rattle.walk_points.proofs.Laws.{walking_first, walking_call, walking_next, walking_done, region_room, node_room, region_holds, node_holds, node_exit_law}
 use Rattle.walk_points.proofs.+walk_node_walk_region.Goals as goal
 
 pub walk_node-overflow_mul-n : goal.walk_node-overflow_mul-n
@@ -13,14 +13,8 @@ walk_node-overflow_add-n t c = omega (arith, node_room c.requires.points_ready c
 pub walk_node-put-at-requires : goal.walk_node-put-at-requires
 walk_node-put-at-requires t c = omega (arith, node_room c.requires.points_ready c.requires.n_in_bounds)
 
-pub walk_node-node_child_count-count-requires : goal.walk_node-node_child_count-count-requires
-walk_node-node_child_count-count-requires t c = record { tables = c.requires.points_ready.tables; n_in_bounds = c.requires.n_in_bounds }
-
 pub walk_node-loop-i-init : goal.walk_node-loop-i-init
-walk_node-loop-i-init t c = (c.requires.n_in_bounds, walking_first c.requires.points_ready (node_words_law _ _) c.put-at.ensures.work_len_unchanged c.put-at.ensures.value c.node_child_count-count.ensures)
-
-pub walk_node-node_child-requires : goal.walk_node-node_child-requires
-walk_node-node_child-requires t c = record { tables = c.loop-i.invariant.1.tables; n_in_bounds = c.loop-i.invariant.0; i_in_bounds = omega (arith, c.loop-i.invariant.1.all, c.loop-i-test.true) }
+walk_node-loop-i-init t c = (c.requires.n_in_bounds, walking_first c.requires.points_ready (node_words_law _ _) c.put-at.ensures.work_len_unchanged c.put-at.ensures.value c.node_child_count-i-end.ensures)
 
 pub walk_node-walk_region-at-requires : goal.walk_node-walk_region-at-requires
 walk_node-walk_region-at-requires t c =
@@ -43,28 +37,16 @@ walk_node-overflow_add-n-3 t c = omega (arith, node_exit_law c.loop-i.invariant 
 pub walk_node-put-requires : goal.walk_node-put-requires
 walk_node-put-requires t c = omega (arith, node_exit_law c.loop-i.invariant c.loop-i-test.false)
 
-pub walk_node-shape_of-work : goal.walk_node-shape_of-work
-walk_node-shape_of-work t c = c.put.ensures.work_len_unchanged ∙ walking_length c.loop-i.invariant.1 ∙ c.put-at.ensures.work_len_unchanged
-
-pub walk_node-returns : goal.walk_node-returns
-walk_node-returns t c =
+pub walk_node-returns-clause-work_after : goal.walk_node-returns-clause-work_after
+walk_node-returns-clause-work_after t c =
     let d = walking_done c.loop-i.invariant.1 c.loop-i-test.false c.args.work.now c.put-at.ensures.work_after c.put.ensures.value c.put.ensures.work_after in
-    record { value = d.0; work_after = d.1; work_len_unchanged = c.put.ensures.work_len_unchanged ∙ walking_length c.loop-i.invariant.1 ∙ c.put-at.ensures.work_len_unchanged }
-
-pub walk_region-overflow_mul-r : goal.walk_region-overflow_mul-r
-walk_region-overflow_mul-r t c = omega (arith, region_room c.requires.points_ready c.requires.r_in_bounds)
+    d.1
 
 pub walk_region-put-at-requires : goal.walk_region-put-at-requires
 walk_region-put-at-requires t c = omega (arith, region_room c.requires.points_ready c.requires.r_in_bounds)
 
-pub walk_region-region_node_count-count-requires : goal.walk_region-region_node_count-count-requires
-walk_region-region_node_count-count-requires t c = record { tables = c.requires.points_ready.tables; r_in_bounds = c.requires.r_in_bounds }
-
 pub walk_region-loop-i-init : goal.walk_region-loop-i-init
-walk_region-loop-i-init t c = (c.requires.r_in_bounds, walking_first c.requires.points_ready (region_words_law _ c.requires.points_ready.walkable.shaped _) c.put-at.ensures.work_len_unchanged c.put-at.ensures.value c.region_node_count-count.ensures)
-
-pub walk_region-region_node-requires : goal.walk_region-region_node-requires
-walk_region-region_node-requires t c = record { tables = c.loop-i.invariant.1.tables; r_in_bounds = c.loop-i.invariant.0; i_in_bounds = omega (arith, c.loop-i.invariant.1.all, c.loop-i-test.true) }
+walk_region-loop-i-init t c = (c.requires.r_in_bounds, walking_first c.requires.points_ready (region_words_law _ c.requires.points_ready.walkable.shaped _) c.put-at.ensures.work_len_unchanged c.put-at.ensures.value c.region_node_count-i-end.ensures)
 
 pub walk_region-walk_node-at-requires : goal.walk_region-walk_node-at-requires
 walk_region-walk_node-at-requires t c =
@@ -75,19 +57,7 @@ pub walk_region-loop-i-preserved : goal.walk_region-loop-i-preserved
 walk_region-loop-i-preserved t c =
     (c.loop-i.invariant.0, walking_next c.loop-i.invariant.1 c.loop-i-test.true c.region_node.ensures c.walk_node-at.ensures.value c.walk_node-at.ensures.work_after)
 
-pub walk_region-overflow_mul-r-2 : goal.walk_region-overflow_mul-r-2
-walk_region-overflow_mul-r-2 t c = omega (arith, region_exit_law c.loop-i.invariant c.loop-i-test.false)
-
-pub walk_region-overflow_add-r : goal.walk_region-overflow_add-r
-walk_region-overflow_add-r t c = omega (arith, region_exit_law c.loop-i.invariant c.loop-i-test.false)
-
-pub walk_region-put-requires : goal.walk_region-put-requires
-walk_region-put-requires t c = omega (arith, region_exit_law c.loop-i.invariant c.loop-i-test.false)
-
-pub walk_region-shape_of-work : goal.walk_region-shape_of-work
-walk_region-shape_of-work t c = c.put.ensures.work_len_unchanged ∙ walking_length c.loop-i.invariant.1 ∙ c.put-at.ensures.work_len_unchanged
-
-pub walk_region-returns : goal.walk_region-returns
-walk_region-returns t c =
+pub walk_region-returns-clause-work_after : goal.walk_region-returns-clause-work_after
+walk_region-returns-clause-work_after t c =
     let d = walking_done c.loop-i.invariant.1 c.loop-i-test.false c.args.work.now c.put-at.ensures.work_after c.put.ensures.value c.put.ensures.work_after in
-    record { value = d.0; work_after = d.1; work_len_unchanged = c.put.ensures.work_len_unchanged ∙ walking_length c.loop-i.invariant.1 ∙ c.put-at.ensures.work_len_unchanged }
+    d.1

@@ -4,17 +4,8 @@ use native.Mathlib.Omega.{arith}
 use Rattle.walk_points.proofs.Roots.{roots_kept, tables_end_law}
 use Rattle.walk_points.proofs.walk.Goals as goal
 
-pub reached-n-requires : goal.reached-n-requires
-reached-n-requires c = record { tables = c.requires.tables; regions_named = c.requires.walkable.named; regions_nonzero = c.requires.walkable.shaped.targets.some_region; work_need_in_bounds = c.requires.work_need_in_bounds }
-
-pub parents-requires : goal.parents-requires
-parents-requires c = record { tables = c.requires.tables; regions_named = c.requires.walkable.named; parents_end_in_bounds = omega (arith, c.requires.work_need_in_bounds, c.reached-n.ensures.work_len_unchanged) }
-
-pub walk_roots-requires : goal.walk_roots-requires
-walk_roots-requires c = record { tables = c.requires.tables; walkable = c.requires.walkable; points_end_in_bounds = omega (arith, c.requires.work_need_in_bounds, c.reached-n.ensures.work_len_unchanged, c.parents.ensures.work_len_unchanged); n_value = (roots_kept c.reached-n.result c.parents.ensures.aside (omega (arith, c.reached-n.ensures.upper_bound, c.requires.walkable.named.few)) ∙ c.reached-n.ensures.result_after, c.reached-n.ensures.upper_bound) }
-
-pub shape_of-work : goal.shape_of-work
-shape_of-work c = c.walk_roots.ensures.work_len_unchanged ∙ c.parents.ensures.work_len_unchanged ∙ c.reached-n.ensures.work_len_unchanged
+pub walk_roots-requires-clause-n_value : goal.walk_roots-requires-clause-n_value
+walk_roots-requires-clause-n_value c = (roots_kept c.reached-n.result c.parents.ensures.aside (omega (arith, c.reached-n.ensures.upper_bound, c.requires.walkable.named.few)) ∙ c.reached-n.ensures.result_after, c.reached-n.ensures.upper_bound)
 
 pub returns : goal.returns
 returns c =
