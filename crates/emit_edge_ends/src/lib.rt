@@ -23,10 +23,7 @@ use terminators::numbers::{node_end, node_start, region_start};
 fn sole_count(n: usize) -> usize
     ensures { result ≡ sole_count n }
 {
-    if n == 1 {
-        return 1;
-    }
-    0
+    usize::from(n == 1)
 }
 
 // How many edges ctrl line c has.
@@ -37,9 +34,10 @@ fn line_count(func: &[u32], c: usize) -> usize
 {
     let n = entry_count(func, c);
     if n != 0 {
-        return n;
+        n
+    } else {
+        sole_count(target_count(func, c))
     }
-    sole_count(target_count(func, c))
 }
 
 // One, where region r has outputs, which a way back takes along.
@@ -48,10 +46,7 @@ fn back_count(func: &[u32], r: usize) -> usize
     requires r_in_bounds { r < length (func_of func.now).regions }
     ensures { result ≡ any_of (region_of (func_of func.now) r).outs }
 {
-    if region_out_count(func, r) == 0 {
-        return 0;
-    }
-    1
+    usize::from(region_out_count(func, r) != 0)
 }
 
 // How many edges a way out has.
@@ -60,15 +55,11 @@ pub fn edge_count(func: &[u32], w: TermKind) -> usize
     ensures { result ≡ length (term_edges (term_of (func_of func.now) w)) }
 {
     match w {
-        TermKind::Straight(_) => 1,
-        TermKind::Return(_) => 0,
+        TermKind::Return(_) | TermKind::Leave(_) => 0,
         TermKind::Line(c) => line_count(func, c),
-        TermKind::Leave(_) => 0,
         TermKind::Select(n, _) => sole_count(node_child_count(func, n)),
-        TermKind::Loop(_, _, _) => 1,
-        TermKind::Join(_, _) => 1,
-        TermKind::Repeat(_, _) => 1,
         TermKind::Test(_, r) => back_count(func, r),
+        _ => 1,
     }
 }
 
@@ -97,9 +88,8 @@ pub fn edge_target(func: &[u32], w: TermKind, k: usize) -> usize
 {
     match w {
         TermKind::Straight(q) => q,
-        TermKind::Return(_) => 0,
+        TermKind::Return(_) | TermKind::Leave(_) => 0,
         TermKind::Line(c) => line_target(func, c, k),
-        TermKind::Leave(_) => 0,
         TermKind::Select(n, _) => region_start(node_child(func, n, 0)),
         TermKind::Loop(_, b, _) => region_start(b),
         TermKind::Join(n, _) => node_end(n),

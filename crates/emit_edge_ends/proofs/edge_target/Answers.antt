@@ -1,29 +1,13 @@
 -- Each way out that has an edge leads where its terminator does (`edge_as` to `edge_test`), to a region or a node of the text, so that the number
 -- is below 512; a return and an exit have no edge to ask for.
-use mathlib.Core.Path.{refl, sym, ap, ◌∙◌}
-use Prim.Native.Nat.{ℕ}
+use mathlib.Core.Path.{refl, sym}
 use native.Mathlib.Omega.{arith}
-use Rattle.lifting.specs.Points.{region_entry}
 use Rattle.func.specs.Decode.{func_of}
-use Rattle.walk_points.specs.Numbers.{number_back, point_number}
+use Rattle.walk_points.specs.Numbers.{number_back}
 use Rattle.terminators.specs.Laws.{low_node}
-use Rattle.terminators.specs.Labels.{fits_as, low_region}
-use Rattle.emit_edge_ends.proofs.Ways.{edge_as, edge_case, edge_join, edge_one, edge_repeat, edge_test, edge_within}
+use Rattle.terminators.specs.Labels.{fits_as}
+use Rattle.emit_edge_ends.proofs.Ways.{edge_join, edge_one, edge_repeat, edge_test}
 use Rattle.emit_edge_ends.proofs.edge_target.Goals as goal
-
-pub line_target-requires : goal.line_target-requires
-line_target-requires c = record { tables = c.requires.known.tables; walkable = (c.requires.known.walkable, c.requires.aimed); c_in_bounds = fits_as c.requires.known c.in-Line.is; k_in_bounds = edge_within (func_of c.args.func.now) c.args.k c.requires.k_in_bounds c.in-Line.is }
-
-pub node_child-requires : goal.node_child-requires
-node_child-requires c = record { tables = c.requires.known.tables; n_in_bounds = fits_as c.requires.known c.in-Select.is; i_in_bounds = (edge_case (func_of c.args.func.now) c.args.k c.requires.k_in_bounds c.in-Select.is).0 }
-
-pub region_start-requires : goal.region_start-requires
-region_start-requires c =
-    let some = (edge_case (func_of c.args.func.now) c.args.k c.requires.k_in_bounds c.in-Select.is).0 in
-    omega (arith, c.node_child.ensures, c.requires.known.walkable.named.few, c.requires.known.walkable.named.child c.in-Select.n 0 (fits_as c.requires.known c.in-Select.is) some)
-
-pub region_start-requires-in-Loop : goal.region_start-requires-in-Loop
-region_start-requires-in-Loop c = low_region c.requires.known (fits_as c.requires.known c.in-Loop.is).1
 
 pub node_end-requires : goal.node_end-requires
 node_end-requires c = low_node c.requires.known.tables (fits_as c.requires.known c.in-Join.is).0
@@ -36,21 +20,6 @@ node_start-requires-in-Test c = low_node c.requires.known.tables (fits_as c.requ
 
 pub returns-in-Straight : goal.returns-in-Straight
 returns-in-Straight c = record { value = edge_one (func_of c.args.func.now) c.args.k c.requires.k_in_bounds c.in-Straight.is refl (sym (number_back c.in-Straight.q)); upper_bound = fits_as c.requires.known c.in-Straight.is }
-
-pub returns-in-Line : goal.returns-in-Line
-returns-in-Line c = record { value = edge_as (func_of c.args.func.now) c.args.k c.requires.k_in_bounds c.in-Line.is c.line_target.ensures.value; upper_bound = c.line_target.ensures.upper_bound }
-
-pub returns-in-Select : goal.returns-in-Select
-returns-in-Select c =
-    let e = edge_case (func_of c.args.func.now) c.args.k c.requires.k_in_bounds c.in-Select.is in
-    record {
-      value = c.region_start.ensures ∙ ap (λ (r : ℕ). point_number (region_entry r)) c.node_child.ensures ∙ sym e.1;
-      upper_bound = omega
-          (arith, c.region_start.ensures, c.node_child.ensures, c.requires.known.walkable.named.few, c.requires.known.walkable.named.child c.in-Select.n 0 (fits_as c.requires.known c.in-Select.is) e.0);
-    }
-
-pub returns-in-Loop : goal.returns-in-Loop
-returns-in-Loop c = record { value = edge_one (func_of c.args.func.now) c.args.k c.requires.k_in_bounds c.in-Loop.is refl c.region_start-in-Loop.ensures; upper_bound = omega (arith, c.region_start-in-Loop.ensures, low_region c.requires.known (fits_as c.requires.known c.in-Loop.is).1) }
 
 pub returns-in-Join : goal.returns-in-Join
 returns-in-Join c = record { value = edge_join (func_of c.args.func.now) c.args.k c.requires.k_in_bounds c.in-Join.is c.node_end.ensures; upper_bound = omega (arith, c.node_end.ensures, low_node c.requires.known.tables (fits_as c.requires.known c.in-Join.is).0) }
