@@ -29,8 +29,7 @@ pub fn phi_decl(func: &[u32], work: &[u32], m: usize, i: usize, j: usize) -> Slo
     requires j_in_bounds { j < length (visited_block (func_of func.now) i).keys }
     ensures { decl_of_slot result ≡ get_or (visited_block (func_of func.now) i).decls j (decl_from 0 0) }
 {
-    let p = point(func, work, m, i);
-    match p {
+    match point(func, work, m, i) {
         Point::RegionEntry(r) => region_in(func, r, j),
         Point::RegionExit(_) => Slot { attrs: 0, ty: 0 },
         Point::NodeEntry(n) => region_in(func, node_child(func, n, 0), j),
@@ -68,15 +67,11 @@ fn carries(func: &[u32], w: TermKind) -> Carried
     ensures { Carries (func_of func.now) (term_of (func_of func.now) w).vals result }
 {
     match w {
-        TermKind::Straight(_) => Carried::Defaults,
-        TermKind::Return(_) => Carried::Defaults,
         TermKind::Line(c) => line_carries(func, c),
-        TermKind::Leave(_) => Carried::Defaults,
-        TermKind::Select(_, _) => Carried::Defaults,
-        TermKind::Loop(_, _, _) => Carried::Defaults,
         TermKind::Join(_, r) => outs_carry(func, r),
         TermKind::Repeat(_, r) => outs_carry(func, r),
         TermKind::Test(_, r) => outs_carry(func, r),
+        _ => Carried::Defaults,
     }
 }
 
@@ -87,12 +82,9 @@ fn default_value(func: &[u32], work: &[u32], m: usize, i: usize, j: usize) -> Va
     requires j_in_bounds { j < length (visited_block (func_of func.now) i).defaults }
     ensures { as_value result ≡ get_or (visited_block (func_of func.now) i).defaults j (const 0) }
 {
-    let p = point(func, work, m, i);
-    match p {
-        Point::RegionEntry(_) => Val::Const(0),
-        Point::RegionExit(_) => Val::Const(0),
+    match point(func, work, m, i) {
         Point::NodeEntry(n) => node_value(func, n, 1 + j),
-        Point::NodeExit(_) => Val::Const(0),
+        _ => Val::Const(0),
     }
 }
 
@@ -111,8 +103,7 @@ pub fn edge_value(
     requires j_in_bounds { j < length (values_along (visited_block (func_of func.now) p).term.vals e (visited_block (func_of func.now) i).defaults) }
     ensures { as_value result ≡ get_or (values_along (visited_block (func_of func.now) p).term.vals e (visited_block (func_of func.now) i).defaults) j (const 0) }
 {
-    let from = carries(func, term_kind(func, work, m, p));
-    match from {
+    match carries(func, term_kind(func, work, m, p)) {
         Carried::Entries(c) => entry_value(func, c, e, j),
         Carried::Outputs(r) => region_out(func, r, j),
         Carried::Defaults => default_value(func, work, m, i, j),

@@ -1,48 +1,55 @@
 // Reading along the chains of edges into a point: the first edge, the next one, and where an edge comes from.
 #![tactic(auto)]
 
-ghost use Rattle.std.specs.Prelude.{◌≡◌, ◌∷◌, ◌+◌, ◌-◌, ◌≤◌, ◌<◌, get_or};
+ghost use Rattle.std.specs.Prelude.{◌≡◌, ◌∷◌, ◌+◌, ◌≤◌, ◌<◌, get_or};
 ghost use Rattle.work.specs.Layout.{heads_at};
 ghost use Rattle.emit_edge_ends.specs.Links.{Chained, chain, next_at, origin_at};
+ghost use Rattle.emit_chains.specs.Edge.{edge_word};
 
-use func_pools::wide;
 use work::{HEADS, NEXTS, ORIGINS};
 
-// The first edge into the point q: 1 + its number, or 0 for none.
-pub fn first_edge(work: &[u32], q: usize) -> usize
+// The edge that a word stands for.
+fn edge_of(x: u32) -> Option<usize>
+    ensures { edge_word result ≡ x }
+{
+    (x as usize).checked_sub(1)
+}
+
+// The first edge into the point q.
+pub fn first_edge(work: &[u32], q: usize) -> Option<usize>
     requires chained { Chained work.now }
     requires q_bound { q < 512 }
-    ensures value { result ≡ get_or work.now (heads_at + q) 0 }
-    ensures upper_bound { result ≤ 1024 }
+    ensures value { edge_word result ≡ get_or work.now (heads_at + q) 0 }
+    ensures upper_bound { edge_word result ≤ 1024 }
 {
-    wide(work[HEADS + q])
+    edge_of(work[HEADS + q])
 }
 
-// The edge after edge h into the same point.
-pub fn next_edge(work: &[u32], h: usize) -> usize
+// The edge after edge e into the same point.
+pub fn next_edge(work: &[u32], e: usize) -> Option<usize>
     requires chained { Chained work.now }
-    requires h_nonzero { (0 < h) × (h ≤ 1024) }
-    ensures value { result ≡ next_at work.now (h - 1) }
-    ensures h_value { chain work.now h ≡ origin_at work.now (h - 1) ∷ chain work.now result }
-    ensures upper_bound { result < h }
+    requires e_bound { e < 1024 }
+    ensures value { edge_word result ≡ next_at work.now e }
+    ensures e_value { chain work.now (e + 1) ≡ origin_at work.now e ∷ chain work.now (edge_word result) }
+    ensures upper_bound { edge_word result ≤ e }
 {
-    wide(work[NEXTS + (h - 1)])
+    edge_of(work[NEXTS + e])
 }
 
-// The position of the block that edge h comes from.
-pub fn edge_position(work: &[u32], h: usize) -> usize
+// The position of the block that edge e comes from.
+pub fn edge_position(work: &[u32], e: usize) -> usize
     requires chained { Chained work.now }
-    requires h_nonzero { (0 < h) × (h ≤ 1024) }
-    ensures { result ≡ (origin_at work.now (h - 1)).0 }
+    requires e_bound { e < 1024 }
+    ensures { result ≡ (origin_at work.now e).0 }
 {
-    wide(work[ORIGINS + (h - 1)]) / 1024
+    work[ORIGINS + e] as usize / 1024
 }
 
 // The number of its entry.
-pub fn edge_entry(work: &[u32], h: usize) -> usize
+pub fn edge_entry(work: &[u32], e: usize) -> usize
     requires chained { Chained work.now }
-    requires h_nonzero { (0 < h) × (h ≤ 1024) }
-    ensures { result ≡ (origin_at work.now (h - 1)).1 }
+    requires e_bound { e < 1024 }
+    ensures { result ≡ (origin_at work.now e).1 }
 {
-    wide(work[ORIGINS + (h - 1)]) % 1024
+    work[ORIGINS + e] as usize % 1024
 }

@@ -22,10 +22,7 @@ use terminators::{Point, TermKind};
 fn sole_count(n: usize) -> usize
     ensures { result ≡ sole_count n }
 {
-    if n == 1 {
-        return 1;
-    }
-    0
+    usize::from(n == 1)
 }
 
 // How many edges ctrl line c has.
@@ -36,9 +33,10 @@ fn line_count(func: &[u32], c: usize) -> usize
 {
     let n = entry_count(func, c);
     if n != 0 {
-        return n;
+        n
+    } else {
+        sole_count(target_count(func, c))
     }
-    sole_count(target_count(func, c))
 }
 
 // One, where region r has outputs, which a way back takes along.
@@ -47,10 +45,7 @@ fn back_count(func: &[u32], r: usize) -> usize
     requires r_in_bounds { r < length (func_of func.now).regions }
     ensures { result ≡ any_of (region_of (func_of func.now) r).outs }
 {
-    if region_out_count(func, r) == 0 {
-        return 0;
-    }
-    1
+    usize::from(region_out_count(func, r) != 0)
 }
 
 // How many edges a way out has.
@@ -59,15 +54,11 @@ pub fn edge_count(func: &[u32], w: TermKind) -> usize
     ensures { result ≡ length (term_edges (term_of (func_of func.now) w)) }
 {
     match w {
-        TermKind::Straight(_) => 1,
-        TermKind::Return(_) => 0,
+        TermKind::Return(_) | TermKind::Leave(_) => 0,
         TermKind::Line(c) => line_count(func, c),
-        TermKind::Leave(_) => 0,
         TermKind::Select(n, _) => sole_count(node_child_count(func, n)),
-        TermKind::Loop(_, _, _) => 1,
-        TermKind::Join(_, _) => 1,
-        TermKind::Repeat(_, _) => 1,
         TermKind::Test(_, r) => back_count(func, r),
+        _ => 1,
     }
 }
 
@@ -96,9 +87,8 @@ pub fn edge_target(func: &[u32], w: TermKind, k: usize) -> usize
 {
     match w {
         TermKind::Straight(q) => q,
-        TermKind::Return(_) => 0,
+        TermKind::Return(_) | TermKind::Leave(_) => 0,
         TermKind::Line(c) => line_target(func, c, k),
-        TermKind::Leave(_) => 0,
         TermKind::Select(n, _) => Point::RegionEntry(node_child(func, n, 0)).number(),
         TermKind::Loop(_, b, _) => Point::RegionEntry(b).number(),
         TermKind::Join(n, _) => Point::NodeExit(n).number(),

@@ -40,11 +40,8 @@ fn link_term(func: &[u32], work: &mut [u32], w: TermKind, i: usize, e: usize) ->
     ensures work_len_unchanged { length work.new ≡ length work.old }
 {
     let mut at = e;
-    let mut k = edge_count(func, w);
-    while 0 < k {
-        k -= 1;
-        let q = edge_target(func, w, k);
-        link_edge(work, q, i, k, at);
+    for k in (0..edge_count(func, w)).rev() {
+        link_edge(work, edge_target(func, w, k), i, k, at);
         at += 1;
     }
     at
@@ -56,10 +53,7 @@ fn block_ends(func: &[u32], work: &[u32], m: usize, i: usize) -> bool
     requires i_lt_m { i < m }
     ensures { result ≡ ends_here (func_of func.now) i }
 {
-    if word(work, STATUSES, i) == 0 {
-        return false;
-    }
-    word(work, ABSORBS, i) == 0
+    word(work, STATUSES, i) != 0 && word(work, ABSORBS, i) == 0
 }
 
 // The edges of position i are linked.
@@ -90,9 +84,7 @@ fn link_all(func: &[u32], work: &mut [u32], m: usize)
     ensures work_len_unchanged { length work.new ≡ length work.old }
 {
     let mut e = 0;
-    let mut i = m;
-    while 0 < i {
-        i -= 1;
+    for i in (0..m).rev() {
         e = link_at(func, work, m, i, e);
     }
 }

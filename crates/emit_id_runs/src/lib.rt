@@ -26,8 +26,7 @@ fn phi_word(func: &[u32], work: &[u32], m: usize, i: usize) -> usize
     ensures value { result ≡ key_word (func_of func.now) (point_at (func_of func.now) i) }
     ensures upper_bound { result < ids_end }
 {
-    let p = point(func, work, m, i);
-    match p {
+    match point(func, work, m, i) {
         Point::RegionEntry(r) => INPUT_IDS + r,
         Point::RegionExit(_) => INPUT_IDS,
         Point::NodeEntry(n) => INPUT_IDS + first_child(func, n),
@@ -65,13 +64,9 @@ fn op_ids(func: &[u32], work: &mut [u32], n: usize, first: u32) -> u32
     requires work_need_in_bounds { (work_need ≤ length work.old) × (first ≤ 4000000000) }
     ensures { GivesIds (ops_names (func_of func.now) (block_ops (node_of (func_of func.now) n))) first work.old result work.new }
 {
-    let count = node_op_count(func, n);
     let mut k = first;
-    let mut j = 0;
-    while j < count {
-        let o = node_op(func, n, j);
-        k = result_id(func, work, o, k);
-        j += 1;
+    for j in 0..node_op_count(func, n) {
+        k = result_id(func, work, node_op(func, n, j), k);
     }
     k
 }
@@ -85,12 +80,9 @@ pub fn result_ids(func: &[u32], work: &mut [u32], m: usize, i: usize, k: u32) ->
     if word(work, STATUSES, i) == 0 {
         return k;
     }
-    let p = point(func, work, m, i);
-    match p {
-        Point::RegionEntry(_) => k,
-        Point::RegionExit(_) => k,
+    match point(func, work, m, i) {
         Point::NodeEntry(n) => op_ids(func, work, n, k),
-        Point::NodeExit(_) => k,
+        _ => k,
     }
 }
 

@@ -1,32 +1,12 @@
 -- The passes over the visited points that give ids, one for each kind of names. Assumes nothing.
---     kind_names, few_names    the names of one kind at a position, and that there are at most 4,095
 --     laid_given    the blocks stay laid out
 --     Passing, pass-..     a pass over the positions
 use Rattle.std.specs.Prelude.{◌≡◌, List, ℕ, ◌+◌, ◌*◌, ◌≤◌, ◌<◌, length}
 use Rattle.std.proofs.Common.{ap, arith}
-use Rattle.lifting.specs.Ast.{Func}
-use Rattle.lifting.specs.Walk.{walk_of}
 use Rattle.lifting.specs.Ids.{Name}
-use Rattle.func.specs.Decode.{func_of}
-use Rattle.func.specs.Tables.{Tables}
 use Rattle.lifting_blocks.specs.Flat.{up_to}
-use Rattle.walk_points.specs.Walk.{Walkable}
 use Rattle.blocks.specs.Laid.{Laid, laid_kept}
-use Rattle.emit_names.specs.Names.{label_names, few_results, few_labels, few_phis, phi_names, result_names}
 use Rattle.emit_names.specs.Numbered.{GivesIds, gives_as, gives_length, gives_low, gives_none, gives_turn}
-use Rattle.emit_ids.specs.declared.Kind.{Kind}
-use Rattle.emit_ids.specs.declared.Kind.TheVariants.{Phis, Results, Labels}
-
--- the names of the i-th visited point, by their kind
-abbrev pub kind_names : Func → Kind → ℕ → List Name
-kind_names F Phis i = phi_names F i
-kind_names F Results i = result_names F i
-kind_names F Labels i = label_names F i
-
-pub few_names : {w : List ℕ} → Tables w → Walkable (func_of w) → (i : ℕ) → i < length (walk_of (func_of w)) → (kind : Kind) → length (kind_names (func_of w) kind i) ≤ 4095
-few_names t ok i h Phis = few_phis t ok i h
-few_names t ok i h Results = few_results t ok i h
-few_names t ok i h Labels = few_labels t ok i h
 
 -- the blocks stay laid out
 pub laid_given : {l : List Name} {w u v : List ℕ} {m k n : ℕ} → Laid w u m → GivesIds l k u n v → Laid w v m

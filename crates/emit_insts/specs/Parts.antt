@@ -1,7 +1,7 @@
 -- An instruction as the emitter writes it: what stands before its ids, then the ids, run by run. Assumes nothing.
---     up_to_gather                  a loop over a list appends what each element gives
+--     up_to_gather, loop_gather     a loop over a list appends what each element gives
 --     op_is, term_is, label_is, merge_none, merge_one, merge_two, phi_is     each instruction by its runs
-use Rattle.std.specs.Prelude.{◌≡◌, ℕ, zero, suc, ◌+◌, get_or}
+use Rattle.std.specs.Prelude.{◌≡◌, ℕ, zero, suc, ◌+◌, ◌≤◌, get_or}
 use Rattle.std.proofs.Math.Path.{refl, sym, ap, ap₂}
 use Rattle.std.proofs.Common.{◌∙◌, arith, length-append}
 use mathlib.Core.List.{List, [], ◌∷◌, ◌++◌, map, append_assoc, append-nil}
@@ -21,7 +21,9 @@ use Rattle.lifting.specs.Instructions.{Instruction, bare, label_inst, loop_contr
 use Rattle.lifting.specs.Words.{imms_words}
 use Rattle.lifting_blocks.specs.Flat.{up_to}
 use Rattle.terminators.specs.Kinds.{merge_control}
+use Rattle.emit_words.specs.declared.Writer.{Writer}
 use Rattle.emit_words.specs.Put.{Item, id, word}
+use Rattle.emit_words.specs.Writes.{Loop, Writes, loop_end, writes_same}
 use Rattle.emit_words.specs.Items.{head_items, inst_items, list_items}
 
 -- ---- a list, element by element
@@ -35,6 +37,11 @@ pub up_to_gather : {A B : Type 0} (f : A → List B) (l : List A) (d : A) → up
 unfolding up_to
 up_to_gather f [] d = refl
 up_to_gather f (x ∷ l) d = up_to_front (λ k. f (get_or (x ∷ l) k d)) (length l) ∙ ap (λ t. f x ++ t) (up_to_gather f l d)
+
+-- what a loop over a list has appended at its end
+pub loop_gather : {A : Type 0} (f : A → List Item) (l : List A) (d : A) {a b : Writer} {k : ℕ}
+    → Loop (λ j. f (get_or l j d)) (length l) a k b → length l ≤ k → Writes a (gather f l) b
+loop_gather f l d p h = writes_same (loop_end p h) (up_to_gather f l d)
 
 -- ---- what stands before the ids
 

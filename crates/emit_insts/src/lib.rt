@@ -13,7 +13,7 @@ ghost use Rattle.lifting_runs.specs.Refers.{Named};
 ghost use Rattle.walk_points.specs.Numbers.{Small};
 ghost use Rattle.emit_names.specs.Ids.{id_in};
 ghost use Rattle.terminators.specs.Kinds.{Known, term_of};
-ghost use Rattle.emit_words.specs.Put.{Put};
+ghost use Rattle.emit_words.specs.Writes.{Writes};
 ghost use Rattle.emit_lists.specs.Named.{ImmsFit, ValuesFit, listed_imms, values_of};
 ghost use Rattle.emit_insts.specs.Parts.{front_items, imm_items, items_of_labels, items_of_values};
 ghost use Rattle.emit_insts.specs.Ready.{EmitReady};
@@ -21,57 +21,51 @@ ghost use Rattle.emit_insts.specs.Ready.{EmitReady};
 use emit_elements::{imm_at, imm_count, value_at, value_count};
 use emit_lists::{Imms, Values};
 use emit_value_ids::value_id;
-use emit_words::{Cursor, put_head, put_id, put_word};
+use emit_words::Writer;
 use func::{Immediate, Val};
 use term_parts::{target_at, targets};
 use terminators::TermKind;
 use work::{LABEL_IDS, word};
 
 // Appends an immediate.
-fn put_imm(out: &mut [u32], c: Cursor, m: Immediate) -> Cursor
-    ensures { Put out.old c (imm_items (as_imm m)) out.new result }
+fn put_imm(out: &mut Writer, m: Immediate)
+    ensures { Writes out.old (imm_items (as_imm m)) out.new }
 {
-    let a = put_word(out, c, m.kind);
-    let b = put_word(out, a, m.operand);
-    put_word(out, b, m.word)
+    out.put_word(m.kind);
+    out.put_word(m.operand);
+    out.put_word(m.word);
 }
 
 // Appends a list of immediates.
-fn put_imms(func: &[u32], out: &mut [u32], c: Cursor, l: Imms) -> Cursor
+fn put_imms(func: &[u32], out: &mut Writer, l: Imms)
     requires tables { Tables func.now }
     requires imms_fit { ImmsFit (func_of func.now) l }
-    ensures { Put out.old c (gather imm_items (listed_imms (func_of func.now) l)) out.new result }
+    ensures { Writes out.old (gather imm_items (listed_imms (func_of func.now) l)) out.new }
 {
-    let n = imm_count(func, l);
-    let mut d = c;
-    let mut k: usize = 0;
-    while k < n {
-        d = put_imm(out, d, imm_at(func, l, k));
-        k += 1;
+    for k in 0..imm_count(func, l) {
+        put_imm(out, imm_at(func, l, k));
     }
-    d
 }
 
 // Appends what stands before the ids: opcode, attributes, result type, result, immediates, and the count of ids.
 pub fn put_front(
     func: &[u32],
-    out: &mut [u32],
-    c: Cursor,
+    out: &mut Writer,
     opcode: u32,
     attrs: u32,
     ty: u32,
     res: u32,
     imms: Imms,
     ids: usize,
-) -> Cursor
+)
     requires tables { Tables func.now }
     requires imms_fit { ImmsFit (func_of func.now) imms }
     requires ids_bound { ids ≤ 65535 }
-    ensures { Put out.old c (front_items opcode attrs ty res (listed_imms (func_of func.now) imms) ids) out.new result }
+    ensures { Writes out.old (front_items opcode attrs ty res (listed_imms (func_of func.now) imms) ids) out.new }
 {
-    let a = put_head(out, c, opcode, attrs, ty, res, imm_count(func, imms) as u32);
-    let b = put_imms(func, out, a, imms);
-    put_word(out, b, ids as u32)
+    out.put_head(opcode, attrs, ty, res, imm_count(func, imms) as u32);
+    put_imms(func, out, imms);
+    out.put_word(ids as u32);
 }
 
 // The id of a value.
@@ -85,28 +79,15 @@ pub fn id_of(func: &[u32], work: &[u32], m: usize, first: u32, v: Val) -> u32
 }
 
 // Appends the ids of a list of values.
-pub fn put_values(
-    func: &[u32],
-    work: &[u32],
-    out: &mut [u32],
-    c: Cursor,
-    m: usize,
-    first: u32,
-    l: Values,
-) -> Cursor
+pub fn put_values(func: &[u32], work: &[u32], out: &mut Writer, m: usize, first: u32, l: Values)
     requires emit_ready { EmitReady func.now work.now m first }
     requires m_nonzero { 0 < m }
     requires values_fit { ValuesFit (func_of func.now) l × All (Named (func_of func.now)) (values_of (func_of func.now) l) }
-    ensures { Put out.old c (items_of_values (func_of func.now) first (values_of (func_of func.now) l)) out.new result }
+    ensures { Writes out.old (items_of_values (func_of func.now) first (values_of (func_of func.now) l)) out.new }
 {
-    let n = value_count(func, l);
-    let mut d = c;
-    let mut k: usize = 0;
-    while k < n {
-        d = put_id(out, d, id_of(func, work, m, first, value_at(func, l, k)));
-        k += 1;
+    for k in 0..value_count(func, l) {
+        out.put_id(id_of(func, work, m, first, value_at(func, l, k)));
     }
-    d
 }
 
 // The id of the label of a point, by its number.
@@ -118,25 +99,12 @@ pub fn label_of(work: &[u32], q: usize) -> u32
 }
 
 // Appends the labels of the targets of a way out.
-pub fn put_targets(
-    func: &[u32],
-    work: &[u32],
-    out: &mut [u32],
-    c: Cursor,
-    m: usize,
-    first: u32,
-    w: TermKind,
-) -> Cursor
+pub fn put_targets(func: &[u32], work: &[u32], out: &mut Writer, m: usize, first: u32, w: TermKind)
     requires emit_ready { EmitReady func.now work.now m first }
     requires known { Known func.now w × All Small (term_of (func_of func.now) w).targets }
-    ensures { Put out.old c (items_of_labels (func_of func.now) first (term_of (func_of func.now) w).targets) out.new result }
+    ensures { Writes out.old (items_of_labels (func_of func.now) first (term_of (func_of func.now) w).targets) out.new }
 {
-    let n = targets(func, w);
-    let mut d = c;
-    let mut k: usize = 0;
-    while k < n {
-        d = put_id(out, d, label_of(work, target_at(func, w, k)));
-        k += 1;
+    for k in 0..targets(func, w) {
+        out.put_id(label_of(work, target_at(func, w, k)));
     }
-    d
 }

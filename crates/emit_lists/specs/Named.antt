@@ -1,5 +1,5 @@
 -- Lists of values and of immediates, each named by the line that it stands in, and the callee of an op. Assumes nothing.
-use Rattle.std.specs.Prelude.{◌≡◌, List, [], ◌∷◌, ℕ, zero, suc, ◌<◌, length}
+use Rattle.std.specs.Prelude.{◌≡◌, List, [], ◌∷◌, ℕ, zero, suc, ◌<◌, length, Option, None, Some}
 use Rattle.opcodes.specs.Table.{opcode_of}
 use Rattle.opcodes.specs.declared.InstKind.TheVariants.{Return, ReturnValue}
 use Rattle.lifting.specs.Ast.{Func, Imm, Value}
@@ -12,8 +12,6 @@ use Rattle.emit_lists.specs.declared.Values.{Values}
 use Rattle.emit_lists.specs.declared.Values.TheVariants.{None as NoValues, Operands, Ins, Node as NodeOf, Test, Outs}
 use Rattle.emit_lists.specs.declared.Imms.{Imms}
 use Rattle.emit_lists.specs.declared.Imms.TheVariants.{None as NoImms, Node as NodeImms, Op, Ctrl, Short}
-use Rattle.emit_lists.specs.declared.Callee.{Callee}
-use Rattle.emit_lists.specs.declared.Callee.TheVariants.{No, Id}
 
 module _ (F : Func) where
   -- the values
@@ -66,6 +64,6 @@ return_opcode zero = opcode_of Return
 return_opcode (suc n) = opcode_of ReturnValue
 
 -- the ids that an op has before those of its operands
-abbrev pub ids_of_callee : Callee → List ℕ
-ids_of_callee No = []
-ids_of_callee (Id f) = f ∷ []
+abbrev pub ids_of_callee : Option ℕ → List ℕ
+ids_of_callee None = []
+ids_of_callee (Some f) = f ∷ []

@@ -24,13 +24,6 @@ pub enum Imms {
     Short(u32, u32),
 }
 
-// The id that an op calls, a function or a set of extended instructions.
-#[derive(Clone, Copy)]
-pub enum Callee {
-    No,
-    Id(u32),
-}
-
 // Where the values along the edges of a way out stand: in the entries of a ctrl line, in the outputs of a region, or with the target.
 #[derive(Clone, Copy)]
 pub enum Carried {

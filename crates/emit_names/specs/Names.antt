@@ -22,7 +22,6 @@ use Rattle.lifting.specs.Points.{BlockLifting, CfgPoint, Table, node_entry, node
 use Rattle.lifting.specs.Walk.{Place, entry_keys, in_block, in_node, top, walk_of}
 use Rattle.lifting.specs.Absorb.{absorb, kept, use_count}
 use Rattle.lifting.specs.Ids.{Name, label, names, param_keys, phi_keys, result_of, the_function, value}
-use Rattle.func.specs.Layout.{ops, params}
 use Rattle.general_laws.specs.Gather.{map_append, gather_none}
 use Rattle.func.specs.Decode.{func_of}
 use Rattle.func.specs.Tables.{Tables}

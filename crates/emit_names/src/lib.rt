@@ -39,8 +39,5 @@ pub fn has_result(func: &[u32], o: usize) -> bool
     requires { Tables func.now }
     ensures { result ≡ ltb 0 (op_of (func_of func.now) o).type }
 {
-    if o < op_total(func) {
-        return 0 < op_type(func, o);
-    }
-    false
+    o < op_total(func) && 0 < op_type(func, o)
 }

@@ -8,7 +8,7 @@ ghost use Rattle.func.specs.Decode.{func_of};
 ghost use Rattle.func.specs.Tables.{Tables};
 ghost use Rattle.emit_lists.specs.Named.{ImmsAre, ids_of_callee};
 
-use emit_lists::{Callee, Imms};
+use emit_lists::Imms;
 use func::OpKind;
 use func_look::op_kind;
 use opcodes::{InstKind, opcode};
@@ -22,8 +22,7 @@ pub fn op_opcode(func: &[u32], o: usize) -> u32
     requires o_in_bounds { o < length (func_of func.now).ops }
     ensures { result ≡ op_opcode (op_of (func_of func.now) o).kind }
 {
-    let kind = op_kind(func, o);
-    match kind {
+    match op_kind(func, o) {
         OpKind::Inst(a) => a,
         OpKind::Call(_) => opcode(InstKind::FunctionCall),
         OpKind::Ext(_, _) => opcode(InstKind::ExtInst),
@@ -36,24 +35,22 @@ pub fn op_imms(func: &[u32], o: usize) -> Imms
     requires o_in_bounds { o < length (func_of func.now).ops }
     ensures { ImmsAre (func_of func.now) (op_imms (op_of (func_of func.now) o).kind) result }
 {
-    let kind = op_kind(func, o);
-    match kind {
+    match op_kind(func, o) {
         OpKind::Inst(_) => Imms::Op(o),
         OpKind::Call(_) => Imms::None,
         OpKind::Ext(_, n) => Imms::Short(EXT_INST_INTEGER, n),
     }
 }
 
-// The id that it calls.
-pub fn callee(func: &[u32], o: usize) -> Callee
+// The id that it calls, a function or a set of extended instructions.
+pub fn callee(func: &[u32], o: usize) -> Option<u32>
     requires tables { Tables func.now }
     requires o_in_bounds { o < length (func_of func.now).ops }
     ensures { ids_of_callee result ≡ callee_ids (op_of (func_of func.now) o).kind }
 {
-    let kind = op_kind(func, o);
-    match kind {
-        OpKind::Inst(_) => Callee::No,
-        OpKind::Call(f) => Callee::Id(f),
-        OpKind::Ext(s, _) => Callee::Id(s),
+    match op_kind(func, o) {
+        OpKind::Inst(_) => None,
+        OpKind::Call(f) => Some(f),
+        OpKind::Ext(s, _) => Some(s),
     }
 }

@@ -9,16 +9,16 @@ ghost use Rattle.lifting.specs.Walk.{walk_of};
 ghost use Rattle.lifting.specs.Absorb.{kept};
 ghost use Rattle.func.specs.Decode.{func_of};
 ghost use Rattle.terminators.specs.At.{visited_block};
-ghost use Rattle.emit_words.specs.Put.{Put};
+ghost use Rattle.emit_words.specs.Writes.{Writes};
 ghost use Rattle.emit_lists.specs.Named.{ids_of_callee};
 ghost use Rattle.emit_insts.specs.Parts.{id_each, op_front, op_in};
 ghost use Rattle.emit_insts.specs.Ready.{EmitReady};
 
 use emit_elements::value_count;
 use emit_insts::{put_front, put_values};
-use emit_lists::{Callee, Values};
+use emit_lists::Values;
 use emit_op_parts::{callee, op_imms, op_opcode};
-use emit_words::{Cursor, put_id};
+use emit_words::Writer;
 use func_look::{node_op, node_op_count, op_attrs, op_type};
 use term_kinds::point;
 use terminators::Point;
@@ -37,23 +37,19 @@ fn result_of(func: &[u32], work: &[u32], m: usize, first: u32, o: usize, ty: u32
 }
 
 // How many ids an op has before its operands.
-fn callee_count(x: Callee) -> usize
+fn callee_count(x: Option<u32>) -> usize
     ensures value { result ≡ length (ids_of_callee x) }
     ensures upper_bound { result ≤ 1 }
 {
-    match x {
-        Callee::No => 0,
-        Callee::Id(_) => 1,
-    }
+    usize::from(x.is_some())
 }
 
 // Appends the id that an op calls.
-fn put_callee(out: &mut [u32], c: Cursor, x: Callee) -> Cursor
-    ensures { Put out.old c (id_each (λ n. n) (ids_of_callee x)) out.new result }
+fn put_callee(out: &mut Writer, x: Option<u32>)
+    ensures { Writes out.old (id_each (λ n. n) (ids_of_callee x)) out.new }
 {
-    match x {
-        Callee::No => c,
-        Callee::Id(f) => put_id(out, c, f),
+    if let Some(f) = x {
+        out.put_id(f);
     }
 }
 
@@ -61,16 +57,15 @@ fn put_callee(out: &mut [u32], c: Cursor, x: Callee) -> Cursor
 fn op_front(
     func: &[u32],
     work: &[u32],
-    out: &mut [u32],
-    c: Cursor,
+    out: &mut Writer,
     m: usize,
     first: u32,
     o: usize,
     ids: usize,
-) -> Cursor
+)
     requires emit_ready { EmitReady func.now work.now m first }
     requires o_in_bounds { (o < length (func_of func.now).ops) × (ids ≤ 65535) }
-    ensures { Put out.old c (op_front (func_of func.now) first (walk_of (func_of func.now)) (kept (walk_of (func_of func.now))) o ids) out.new result }
+    ensures { Writes out.old (op_front (func_of func.now) first (walk_of (func_of func.now)) (kept (walk_of (func_of func.now))) o ids) out.new }
 {
     let ty = op_type(func, o);
     let result = result_of(func, work, m, first, o, ty);
@@ -78,81 +73,47 @@ fn op_front(
     put_front(
         func,
         out,
-        c,
         op_opcode(func, o),
         op_attrs(func, o),
         ty,
         result,
         imms,
         ids,
-    )
+    );
 }
 
 // Appends op o.
-fn put_op(
-    func: &[u32],
-    work: &[u32],
-    out: &mut [u32],
-    c: Cursor,
-    m: usize,
-    first: u32,
-    o: usize,
-) -> Cursor
+fn put_op(func: &[u32], work: &[u32], out: &mut Writer, m: usize, first: u32, o: usize)
     requires emit_ready { EmitReady func.now work.now m first }
     requires m_nonzero { (0 < m) × (o < length (func_of func.now).ops) }
-    ensures { Put out.old c (op_in (func_of func.now) first o) out.new result }
+    ensures { Writes out.old (op_in (func_of func.now) first o) out.new }
 {
     let called = callee(func, o);
     let operands = Values::Operands(o);
     let ids = callee_count(called) + value_count(func, operands);
-    let a = op_front(func, work, out, c, m, first, o, ids);
-    let b = put_callee(out, a, called);
-    put_values(func, work, out, b, m, first, operands)
+    op_front(func, work, out, m, first, o, ids);
+    put_callee(out, called);
+    put_values(func, work, out, m, first, operands);
 }
 
 // Appends the ops of node n.
-fn put_node_ops(
-    func: &[u32],
-    work: &[u32],
-    out: &mut [u32],
-    c: Cursor,
-    m: usize,
-    first: u32,
-    n: usize,
-) -> Cursor
+fn put_node_ops(func: &[u32], work: &[u32], out: &mut Writer, m: usize, first: u32, n: usize)
     requires emit_ready { EmitReady func.now work.now m first }
     requires m_nonzero { (0 < m) × (n < length (func_of func.now).nodes) }
-    ensures { Put out.old c (gather (op_in (func_of func.now) first) (block_ops (node_of (func_of func.now) n))) out.new result }
+    ensures { Writes out.old (gather (op_in (func_of func.now) first) (block_ops (node_of (func_of func.now) n))) out.new }
 {
-    let count = node_op_count(func, n);
-    let mut d = c;
-    let mut k: usize = 0;
-    while k < count {
-        d = put_op(func, work, out, d, m, first, node_op(func, n, k));
-        k += 1;
+    for k in 0..node_op_count(func, n) {
+        put_op(func, work, out, m, first, node_op(func, n, k));
     }
-    d
 }
 
 // Appends the ops of the i-th visited point.
-pub fn put_ops(
-    func: &[u32],
-    work: &[u32],
-    out: &mut [u32],
-    c: Cursor,
-    m: usize,
-    first: u32,
-    i: usize,
-) -> Cursor
+pub fn put_ops(func: &[u32], work: &[u32], out: &mut Writer, m: usize, first: u32, i: usize)
     requires emit_ready { EmitReady func.now work.now m first }
     requires i_lt_m { i < m }
-    ensures { Put out.old c (gather (op_in (func_of func.now) first) (visited_block (func_of func.now) i).ops) out.new result }
+    ensures { Writes out.old (gather (op_in (func_of func.now) first) (visited_block (func_of func.now) i).ops) out.new }
 {
-    let p = point(func, work, m, i);
-    match p {
-        Point::RegionEntry(_) => c,
-        Point::RegionExit(_) => c,
-        Point::NodeEntry(n) => put_node_ops(func, work, out, c, m, first, n),
-        Point::NodeExit(_) => c,
+    if let Point::NodeEntry(n) = point(func, work, m, i) {
+        put_node_ops(func, work, out, m, first, n);
     }
 }

@@ -5,7 +5,7 @@
 --     from_low, value_low, value_names    an edge into a visited point, and what moves along it
 --     pairs_put, ids_are       the pairs of a phi, and how many ids they have
 --     Pairing, pairing-..      a loop that appends the pair of an edge a turn
-use mathlib.Core.Path.{◌≡◌, sym, ap, ◌∙◌}
+use mathlib.Core.Path.{◌≡◌, sym, ap, subst, ◌∙◌}
 use mathlib.Core.List.{List, [], ◌∷◌, ◌++◌, append-nil}
 use Prim.Native.Nat.{ℕ, ◌+◌, ◌-◌, ◌*◌, ◌≤◌, ◌<◌}
 use native.Mathlib.Omega.{arith}
@@ -24,11 +24,12 @@ use Rattle.walk_points.specs.Numbers.{point_number}
 use Rattle.terminators.specs.At.{visited_block, point_at}
 use Rattle.terminators.specs.Visited.{Visited}
 use Rattle.block_absorbs.specs.Absorbs.{stands}
-use Rattle.emit_words.specs.declared.Cursor.{Cursor}
+use Rattle.emit_words.specs.declared.Writer.{Writer}
 use Rattle.general_laws.specs.Part.{last_place}
-use Rattle.emit_words.specs.Put.{Item, Put, put_more, put_none, put_same}
+use Rattle.emit_words.specs.Put.{Item}
+use Rattle.emit_words.specs.Writes.{Writes, writes_more, writes_none, writes_same}
 use Rattle.emit_edge_ends.specs.Ends.{edges_into, head_word, head_at}
-use Rattle.emit_edge_ends.specs.Links.{Chained, ChainRest, next_at, origin_at, rest_done, rest_next}
+use Rattle.emit_edge_ends.specs.Links.{Chained, ChainRest, next_at, origin_at, rest_done, rest_edge, rest_next}
 use Rattle.emit_insts.specs.Ready.{EmitReady, ready_visited}
 use Rattle.emit_phis.specs.Keys.{key_is, key_named, key_of}
 use Rattle.emit_phis.specs.Along.{FirstInto, along_count, along_named, along_edge, origin_low}
@@ -75,30 +76,36 @@ module _ {w u : List ℕ} {m first : ℕ} (k : EmitReady w u m first) where
 
 -- ---- the pairs of phi j of the i-th visited point, along the chain
 
+pub same_edge : {p e : ℕ} {o : ℕ × ℕ} → p ≡ o.0 → e ≡ o.1 → ◌≡◌ {A = ℕ × ℕ} (p, e) o
+same_edge a b = λ k. (a k, b k)
+
 -- those of the edges `done` are appended, and the edges from h on are left
-pub record Pairing (F : Func) (first i j : ℕ) (u w : List ℕ) (c : Cursor) (out : List ℕ) (d : Cursor) (h : ℕ) : Type 0 where
+pub record Pairing (F : Func) (first i j : ℕ) (u : List ℕ) (w r : Writer) (h : ℕ) : Type 0 where
   pub done : List (ℕ × ℕ)
   pub rest : ChainRest F (point_at F i) u done h
-  pub put : Put w c (gather (pair_in F first i j) done) out d
+  pub writes : Writes w (gather (pair_in F first i j) done) r
 
-pub pairing_first : {F : Func} {first i j : ℕ} {u w : List ℕ} {c : Cursor} {h : ℕ} → length w ≤ last_place → c.at ≤ last_place → FirstInto F u i h
-    → Pairing F first i j u w c w c h
-pairing_first a b r = record { done = []; rest = r; put = put_none a b }
+pub pairing_first : {F : Func} {first i j : ℕ} {u : List ℕ} {w : Writer} {h : ℕ} → length w.out.now ≤ last_place → FirstInto F u i h → Pairing F first i j u w w h
+pairing_first a r = record { done = []; rest = r; writes = writes_none a }
 
-module _ {F : Func} {first i j : ℕ} {u w : List ℕ} {c : Cursor} {out : List ℕ} {d : Cursor} {h : ℕ} (p : Pairing F first i j u w c out d h) where
-  pub pairing_next : Chained u → 0 < h → {v : List ℕ} {e : Cursor} → Put out d (pair_in F first i j (origin_at u (h - 1))) v e → {n : ℕ} → n ≡ next_at u (h - 1)
-      → Pairing F first i j u w c v e n
-  pairing_next k z q e =
+module _ {F : Func} {first i j : ℕ} {u : List ℕ} {w r : Writer} {h : ℕ} (p : Pairing F first i j u w r h) where
+  -- the next edge e, from the x-th position along entry k
+  pub pairing_edge : Chained u → (e : ℕ) {x k : ℕ} → h ≡ e + 1 → x ≡ (origin_at u e).0 → k ≡ (origin_at u e).1 → In (x, k) (edges_into F (point_at F i) 0)
+  pairing_edge c e z a b =
+      let y : h - 1 ≡ e = omega arith in
+      subst (λ (o : ℕ × ℕ). In o (edges_into F (point_at F i) 0)) (ap (origin_at u) y ∙ sym (same_edge a b)) (rest_edge c p.rest (omega arith))
+
+  pub pairing_next : Chained u → (e : ℕ) {x k : ℕ} → h ≡ e + 1 → x ≡ (origin_at u e).0 → k ≡ (origin_at u e).1 → {s : Writer} → Writes r (pair_in F first i j (x, k)) s
+      → {n : ℕ} → n ≡ next_at u e → Pairing F first i j u w s n
+  pairing_next c e z a b q g =
+      let y : e ≡ h - 1 = omega arith in
       let o : ℕ × ℕ = origin_at u (h - 1) in
       record {
         done = p.done ++ (o ∷ []);
-        rest = rest_next k p.rest z e;
-        put = put_same (put_more p.put q)
+        rest = rest_next c p.rest (omega arith) (g ∙ ap (next_at u) y);
+        writes = writes_same (writes_more p.writes (writes_same q (ap (pair_in F first i j) (same_edge a b ∙ ap (origin_at u) y))))
             (sym (gather_append (pair_in F first i j) p.done (o ∷ []) ∙ ap (λ (l : List Item). gather (pair_in F first i j) p.done ++ l) (append-nil (pair_in F first i j o))));
       }
 
-  pub pairing_done : Chained u → h ≡ 0 → Put w c (gather (pair_in F first i j) (edges_into F (point_at F i) 0)) out d
-  pairing_done k e = put_same p.put (ap (gather (pair_in F first i j)) (rest_done k p.rest e))
-
-pub same_edge : {p e : ℕ} {o : ℕ × ℕ} → p ≡ o.0 → e ≡ o.1 → ◌≡◌ {A = ℕ × ℕ} (p, e) o
-same_edge a b = λ k. (a k, b k)
+  pub pairing_done : Chained u → h ≡ 0 → Writes w (gather (pair_in F first i j) (edges_into F (point_at F i) 0)) r
+  pairing_done k e = writes_same p.writes (ap (gather (pair_in F first i j)) (rest_done k p.rest e))

@@ -19,8 +19,7 @@ pub fn phi_value(func: &[u32], work: &[u32], m: usize, i: usize, j: usize) -> Va
     requires j_in_bounds { j < length (visited_block (func_of func.now) i).keys }
     ensures { as_value result ≡ get_or (visited_block (func_of func.now) i).keys j (const 0) }
 {
-    let p = point(func, work, m, i);
-    match p {
+    match point(func, work, m, i) {
         Point::RegionEntry(r) => Val::Input(r as u32, j as u32),
         Point::RegionExit(_) => Val::Const(0),
         Point::NodeEntry(n) => Val::Input(node_child(func, n, 0) as u32, j as u32),

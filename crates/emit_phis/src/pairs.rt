@@ -7,17 +7,18 @@ ghost use Rattle.terminators.specs.At.{visited_block, point_at};
 ghost use Rattle.terminators.specs.Visited.{Visited};
 ghost use Rattle.block_absorbs.specs.Absorbs.{stands};
 ghost use Rattle.emit_names.specs.Ids.{label_in};
-ghost use Rattle.emit_words.specs.Put.{Put};
+ghost use Rattle.emit_words.specs.Writes.{Writes};
 ghost use Rattle.emit_edge_ends.specs.Ends.{edges_into, head_at};
 ghost use Rattle.emit_edge_ends.specs.Links.{Chained, Linked, chain};
 ghost use Rattle.emit_insts.specs.Ready.{EmitReady};
+ghost use Rattle.emit_chains.specs.Edge.{edge_word};
 ghost use Rattle.emit_phis.specs.Along.{FirstInto};
 ghost use Rattle.emit_phis.specs.Items.{pair_in, pairs_in};
 
 use emit_carried::edge_value;
 use emit_chains::{edge_entry, edge_position, first_edge, next_edge};
 use emit_insts::{id_of, label_of};
-use emit_words::{Cursor, put_id};
+use emit_words::Writer;
 use work::{POINTS, STATUSES, number};
 
 // The label of the kept block in which the p-th visited point stands.
@@ -34,78 +35,73 @@ fn block_label(func: &[u32], work: &[u32], m: usize, first: u32, p: usize) -> u3
 fn put_pair(
     func: &[u32],
     work: &[u32],
-    out: &mut [u32],
-    c: Cursor,
+    out: &mut Writer,
     m: usize,
     first: u32,
     i: usize,
     j: usize,
     p: usize,
     e: usize,
-) -> Cursor
+)
     requires emit_ready { EmitReady func.now work.now m first }
     requires i_lt_m { (i < m) × (j < length (visited_block (func_of func.now) i).keys) }
     requires fact { In (p, e) (edges_into (func_of func.now) (point_at (func_of func.now) i) 0) }
-    ensures { Put out.old c (pair_in (func_of func.now) first i j (p, e)) out.new result }
+    ensures { Writes out.old (pair_in (func_of func.now) first i j (p, e)) out.new }
 {
     let value = edge_value(func, work, m, i, p, e, j);
-    let a = put_id(out, c, id_of(func, work, m, first, value));
-    put_id(out, a, block_label(func, work, m, first, p))
+    out.put_id(id_of(func, work, m, first, value));
+    out.put_id(block_label(func, work, m, first, p));
 }
 
-// The first edge into the i-th visited point: 1 + its number, or 0 for none.
-pub fn first_into(func: &[u32], work: &[u32], m: usize, i: usize) -> usize
+// The first edge into the i-th visited point.
+pub fn first_into(func: &[u32], work: &[u32], m: usize, i: usize) -> Option<usize>
     requires visited { Visited func.now work.now m }
     requires linked { Linked (func_of func.now) work.now }
     requires i_lt_m { i < m }
-    ensures { FirstInto (func_of func.now) work.now i result }
+    ensures { FirstInto (func_of func.now) work.now i (edge_word result) }
 {
     first_edge(work, number(work, POINTS, i))
 }
 
-// How many ids the pairs of the edges from edge h on have.
-pub fn pair_words(work: &[u32], h: usize) -> usize
+// How many ids the pairs of the edges from a first one on have.
+pub fn pair_words(work: &[u32], from: Option<usize>) -> usize
     requires chained { Chained work.now }
-    requires h_bound { h ≤ 1024 }
-    ensures value { result ≡ 2 * length (chain work.now h) }
+    requires from_bound { edge_word from ≤ 1024 }
+    ensures value { result ≡ 2 * length (chain work.now (edge_word from)) }
     ensures upper_bound { result ≤ 2048 }
 {
     let mut n: usize = 0;
-    let mut e = h;
-    while 0 < e {
+    let mut edge = from;
+    while let Some(e) = edge {
         n += 2;
-        e = next_edge(work, e);
+        edge = next_edge(work, e);
     }
     n
 }
 
-// Appends the pairs of phi j of the i-th visited point, into which h is the first edge.
+// Appends the pairs of phi j of the i-th visited point, for the edges from the first one into it on.
 pub fn put_pairs(
     func: &[u32],
     work: &[u32],
-    out: &mut [u32],
-    c: Cursor,
+    out: &mut Writer,
     m: usize,
     first: u32,
     i: usize,
     j: usize,
-    h: usize,
-) -> Cursor
+    from: Option<usize>,
+)
     requires emit_ready { EmitReady func.now work.now m first }
     requires linked { Linked (func_of func.now) work.now }
     requires i_lt_m { (i < m) × (j < length (visited_block (func_of func.now) i).keys) }
-    requires first_into { FirstInto (func_of func.now) work.now i h }
-    ensures { Put out.old c (pairs_in (func_of func.now) first i j) out.new result }
+    requires first_into { FirstInto (func_of func.now) work.now i (edge_word from) }
+    ensures { Writes out.old (pairs_in (func_of func.now) first i j) out.new }
 {
-    let mut d = c;
-    let mut e = h;
-    while 0 < e {
-        let after = next_edge(work, e);
-        d = put_pair(
+    let mut edge = from;
+    while let Some(e) = edge {
+        put_pair(
             func,
             work,
             out,
-            d,
             m,
             first,
             i,
@@ -113,7 +109,6 @@ pub fn put_pairs(
             edge_position(work, e),
             edge_entry(work, e),
         );
-        e = after;
+        edge = next_edge(work, e);
     }
-    d
 }

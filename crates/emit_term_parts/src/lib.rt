@@ -23,15 +23,8 @@ pub fn term_attrs(func: &[u32], w: TermKind) -> u32
     ensures { result ≡ (term_of (func_of func.now) w).attrs }
 {
     match w {
-        TermKind::Straight(_) => 0,
-        TermKind::Return(_) => 0,
         TermKind::Line(c) => ctrl_attrs(func, c),
-        TermKind::Leave(_) => 0,
-        TermKind::Select(_, _) => 0,
-        TermKind::Loop(_, _, _) => 0,
-        TermKind::Join(_, _) => 0,
-        TermKind::Repeat(_, _) => 0,
-        TermKind::Test(_, _) => 0,
+        _ => 0,
     }
 }
 
@@ -51,14 +44,12 @@ fn line_opcode(func: &[u32], c: usize) -> u32
     requires c_in_bounds { c < length (func_of func.now).ctrls }
     ensures { result ≡ term_opcode (ctrl_line_of (func_of func.now) c).1.kind (ctrl_line_of (func_of func.now) c).1.ins }
 {
-    let kind = ctrl_kind(func, c);
-    match kind {
+    match ctrl_kind(func, c) {
         CtrlKind::Unreachable => opcode(InstKind::Unreachable),
         CtrlKind::Return => return_opcode(ctrl_in_count(func, c)),
         CtrlKind::Branch => opcode(InstKind::Branch),
         CtrlKind::Bool => opcode(InstKind::BranchConditional),
-        CtrlKind::Inst => ctrl_opcode(func, c),
-        CtrlKind::Exit => ctrl_opcode(func, c),
+        CtrlKind::Inst | CtrlKind::Exit => ctrl_opcode(func, c),
     }
 }
 
@@ -68,13 +59,10 @@ fn entry_opcode(func: &[u32], n: usize) -> u32
     requires n_in_bounds { n < length (func_of func.now).nodes }
     ensures { result ≡ term_opcode (term_of (func_of func.now) (Leave n)).kind (term_of (func_of func.now) (Leave n)).ins }
 {
-    let kind = node_kind(func, n);
-    match kind {
-        NodeKind::Block => opcode(InstKind::Branch),
+    match node_kind(func, n) {
+        NodeKind::Block | NodeKind::Loop => opcode(InstKind::Branch),
         NodeKind::SelectBool => opcode(InstKind::BranchConditional),
-        NodeKind::SelectInst => node_opcode(func, n),
-        NodeKind::Loop => opcode(InstKind::Branch),
-        NodeKind::Exit => node_opcode(func, n),
+        NodeKind::SelectInst | NodeKind::Exit => node_opcode(func, n),
     }
 }
 
@@ -83,17 +71,12 @@ pub fn term_opcode(func: &[u32], w: TermKind) -> u32
     requires { Known func.now w }
     ensures { result ≡ term_opcode (term_of (func_of func.now) w).kind (term_of (func_of func.now) w).ins }
 {
-    let branch = opcode(InstKind::Branch);
     match w {
-        TermKind::Straight(_) => branch,
         TermKind::Return(r) => return_opcode(region_out_count(func, r)),
         TermKind::Line(c) => line_opcode(func, c),
-        TermKind::Leave(n) => entry_opcode(func, n),
-        TermKind::Select(n, _) => entry_opcode(func, n),
-        TermKind::Loop(_, _, _) => branch,
-        TermKind::Join(_, _) => branch,
-        TermKind::Repeat(_, _) => branch,
+        TermKind::Leave(n) | TermKind::Select(n, _) => entry_opcode(func, n),
         TermKind::Test(_, _) => opcode(InstKind::BranchConditional),
+        _ => opcode(InstKind::Branch),
     }
 }
 
@@ -103,15 +86,9 @@ pub fn term_imms(func: &[u32], w: TermKind) -> Imms
     ensures { ImmsAre (func_of func.now) (term_imms (term_of (func_of func.now) w).kind) result }
 {
     match w {
-        TermKind::Straight(_) => Imms::None,
-        TermKind::Return(_) => Imms::None,
         TermKind::Line(c) => Imms::Ctrl(c),
-        TermKind::Leave(n) => Imms::Node(n),
-        TermKind::Select(n, _) => Imms::Node(n),
-        TermKind::Loop(_, _, _) => Imms::None,
-        TermKind::Join(_, _) => Imms::None,
-        TermKind::Repeat(_, _) => Imms::None,
-        TermKind::Test(_, _) => Imms::None,
+        TermKind::Leave(n) | TermKind::Select(n, _) => Imms::Node(n),
+        _ => Imms::None,
     }
 }
 
@@ -121,14 +98,10 @@ pub fn term_ins(func: &[u32], w: TermKind) -> Values
     ensures { ValuesAre (func_of func.now) (term_of (func_of func.now) w).ins result }
 {
     match w {
-        TermKind::Straight(_) => Values::None,
         TermKind::Return(r) => Values::Outs(r),
         TermKind::Line(c) => Values::Ins(c),
-        TermKind::Leave(n) => Values::Node(n),
-        TermKind::Select(n, _) => Values::Node(n),
-        TermKind::Loop(_, _, _) => Values::None,
-        TermKind::Join(_, _) => Values::None,
-        TermKind::Repeat(_, _) => Values::None,
+        TermKind::Leave(n) | TermKind::Select(n, _) => Values::Node(n),
         TermKind::Test(n, _) => Values::Test(n),
+        _ => Values::None,
     }
 }

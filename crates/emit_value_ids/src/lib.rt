@@ -11,7 +11,6 @@ ghost use Rattle.emit_value_ids.specs.Later.{KnownValue, later_id};
 
 use func::Val;
 use func_look::const_id;
-use func_pools::wide;
 use work::{INPUT_IDS, OUTPUT_IDS, RESULT_IDS};
 
 // The id of the i-th of a run whose first one's id is in word s; 0 where that has none.
@@ -35,9 +34,9 @@ pub fn value_id(func: &[u32], work: &[u32], first: u32, v: Val) -> u32
     ensures { result ≡ id_in (func_of func.now) first (as_value v) }
 {
     match v {
-        Val::Const(n) => const_id(func, wide(n)),
-        Val::Input(r, i) => later(work, INPUT_IDS + wide(r), i),
-        Val::Output(n, i) => later(work, OUTPUT_IDS + wide(n), i),
-        Val::Result(o) => work[RESULT_IDS + wide(o)],
+        Val::Const(n) => const_id(func, n as usize),
+        Val::Input(r, i) => later(work, INPUT_IDS + r as usize, i),
+        Val::Output(n, i) => later(work, OUTPUT_IDS + n as usize, i),
+        Val::Result(o) => work[RESULT_IDS + o as usize],
     }
 }

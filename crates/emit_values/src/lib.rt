@@ -11,7 +11,7 @@ ghost use Rattle.emit_values.specs.Given.{all_given};
 
 use emit_value_ids::value_id;
 use func_look::value;
-use func_pools::{VALUES, count, wide};
+use func_pools::{VALUES, count};
 
 // Every value of the text has an id.
 pub fn all_given(func: &[u32], work: &[u32], first: u32) -> bool
@@ -21,14 +21,10 @@ pub fn all_given(func: &[u32], work: &[u32], first: u32) -> bool
     requires ids_end_in_bounds { (ids_end ≤ length work.now) × (first ≤ highest_id) }
     ensures { result ≡ all_given (func_of func.now) first }
 {
-    let n = wide(count(func, VALUES));
-    let mut i = 0;
-    while i < n {
-        let v = value(func, i);
-        if value_id(func, work, first, v) == 0 {
+    for i in 0..count(func, VALUES) as usize {
+        if value_id(func, work, first, value(func, i)) == 0 {
             return false;
         }
-        i += 1;
     }
     true
 }

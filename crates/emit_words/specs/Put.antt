@@ -2,15 +2,14 @@
 -- remembered: so one emitter counts the words of a list, finds the ids that are missing, and writes. Assumes nothing.
 --     Put                      items appended: the whole slice at exit, the next place, and whether an id was missing
 --     put_none, put_one        no item, and one
+--     put_id                   an id is the word, and whether it is 0
 --     put_more                 one run of items after another
---     Loop, loop_start, loop_turn, loop_end    a loop that appends a run of items a turn
---     put_same, put_length     the same items; the slice keeps its length
-use Rattle.std.specs.Prelude.{◌≡◌, refl, Bool, true, false, ◌||◌, List, [], ◌∷◌, ◌++◌, ℕ, zero, suc, ◌+◌, ◌-◌, ◌≤◌, ◌<◌, length, set}
-use Rattle.std.proofs.Common.{sym, ap, subst, ◌∙◌, add-one, arith, length-append}
+--     put_same, put_length, put_low     the same items; the slice keeps its length; the next place is no higher than the last one
+use Rattle.std.specs.Prelude.{◌≡◌, refl, Bool, true, false, ◌||◌, List, [], ◌∷◌, ◌++◌, ℕ, zero, suc, ◌+◌, ◌≤◌, length, set}
+use Rattle.std.proofs.Common.{sym, ap, ap₂, subst, ◌∙◌, arith, length-append}
 use Rattle.std.proofs.lemmas.List.Edits.{sets}
 use Rattle.std.proofs.Math.Seq.{length-sets}
 use Rattle.general_laws.specs.Part.{last_place, sat, sets_sat}
-use Rattle.lifting_blocks.specs.Flat.{up_to}
 use Rattle.emit_words.specs.declared.Cursor.{Cursor}
 
 pub data Item : Type 0 where
@@ -95,6 +94,11 @@ pub put_one : {w out : List ℕ} {c r : Cursor} (x : Item) → length w ≤ last
 unfolding item_words any_missing
 put_one {c = c} x h e n b = record { size = h; words = e; next = n; missed = b ∙ ap (missed_mark c.missed) (sym (or_false (missing x))) }
 
+pub put_id : {w out : List ℕ} {c r : Cursor} {x : ℕ} (m : ℕ) → Put w c (word x ∷ []) out r → m ≡ missed_mark r.missed (is_zero x)
+    → Put w c (id x ∷ []) out (record { at = r.at; missed = m })
+unfolding item_words any_missing
+put_id {c = c} {x = x} m p e = record { size = p.size; words = p.words; next = p.next; missed = e ∙ ap₂ missed_mark p.missed (sym (or_false (is_zero x))) }
+
 pub put_more : {w u v : List ℕ} {c d e : Cursor} {k l : List Item} → Put w c k u d → Put u d l v e → Put w c (k ++ l) v e
 put_more {w} {u} {v} {c} {d} {e} {k} {l} p q = record {
   size = p.size;
@@ -113,22 +117,9 @@ put_more {w} {u} {v} {c} {d} {e} {k} {l} p q = record {
 pub put_length : {w out : List ℕ} {c r : Cursor} {l : List Item} → Put w c l out r → length out ≡ length w
 put_length {w} {c = c} {l = l} p = ap length p.words ∙ length-sets w c.at (item_words l)
 
+-- the next place is a number that a word of the machine holds
+pub put_low : {w out : List ℕ} {c r : Cursor} {l : List Item} → Put w c l out r → r.at ≤ last_place
+put_low p = omega (arith, p.next)
+
 pub put_same : {w u : List ℕ} {c d : Cursor} {k l : List Item} → Put w c k u d → k ≡ l → Put w c l u d
 put_same {w} {u} {c} {d} p e = subst (λ (x : List Item). Put w c x u d) e p
-
--- a loop that appends g k in turn k of n, where k turns were made
-pub record Loop (g : ℕ → List Item) (n : ℕ) (w : List ℕ) (c : Cursor) (k : ℕ) (out : List ℕ) (d : Cursor) : Type 0 where
-  pub within : k ≤ n
-  pub put : Put w c (up_to g k) out d
-
-pub loop_start : (g : ℕ → List Item) (n : ℕ) {w : List ℕ} {c : Cursor} → length w ≤ last_place → c.at ≤ last_place → Loop g n w c 0 w c
-unfolding up_to
-loop_start g n h k = record { within = omega arith; put = put_none h k }
-
-pub loop_turn : {g : ℕ → List Item} {n : ℕ} {w u v : List ℕ} {c d e : Cursor} {k : ℕ} → Loop g n w c k u d → k < n → Put u d (g k) v e → Loop g n w c (k + 1) v e
-unfolding up_to
-loop_turn {g} {w = w} {v = v} {c} {e = e} {k} p h q =
-    record { within = omega arith; put = subst (λ (j : ℕ). Put w c (up_to g j) v e) (sym (add-one k)) (put_more p.put q) }
-
-pub loop_end : {g : ℕ → List Item} {n : ℕ} {w u : List ℕ} {c d : Cursor} {k : ℕ} → Loop g n w c k u d → n ≤ k → Put w c (up_to g n) u d
-loop_end {g} {n} {w} {u} {c} {d} p h = subst (λ (j : ℕ). Put w c (up_to g j) u d) (omega (arith, p.within)) p.put

@@ -1,10 +1,9 @@
-// Words appended to the output at a cursor. A word past the slice's end is counted and not stored, so that a run over an empty slice counts.
+// Words appended to the output slice at a place. A word past the slice's end is counted and not stored, so that a run over an empty slice counts.
 #![tactic(auto)]
 
-ghost use Rattle.std.specs.Prelude.{◌≡◌, [], ◌∷◌, ◌+◌, set};
-ghost use Rattle.general_laws.specs.Part.{sat};
-ghost use Rattle.emit_words.specs.Put.{Put};
+ghost use Rattle.std.specs.Prelude.{◌≡◌, [], ◌∷◌, set};
 ghost use Rattle.emit_words.specs.Put.Item.{word, id};
+ghost use Rattle.emit_words.specs.Writes.{Writes};
 ghost use Rattle.emit_words.specs.Items.{head_items};
 
 // The place of the next word; 1 once an id was missing, else 0. That is a word as wide as the place: the compiler copies a narrower field with
@@ -15,13 +14,11 @@ pub struct Cursor {
     pub missed: usize,
 }
 
-const LAST: usize = 18446744073709551615;
-
-// The place after `at`, which stays at the last one.
-fn after(at: usize) -> usize
-    ensures { result ≡ sat (at + 1) }
-{
-    if at < LAST { at + 1 } else { at }
+// The slice that is written, and how far it is.
+#[derive(Drop)]
+pub struct Writer<'a> {
+    pub out: &'a mut [u32],
+    pub cursor: Cursor,
 }
 
 // Stores a word where there is room.
@@ -33,53 +30,33 @@ fn store(out: &mut [u32], at: usize, x: u32)
     }
 }
 
-// Appends a word that is no id.
-pub fn put_word(out: &mut [u32], c: Cursor, x: u32) -> Cursor
-    ensures { Put out.old c (word x ∷ []) out.new result }
-{
-    let at = c.at;
-    store(out, at, x);
-    Cursor {
-        at: after(at),
-        missed: c.missed,
+impl Writer<'_> {
+    // Appends a word that is no id. The place stays at the last one.
+    pub fn put_word(&mut self, x: u32)
+        ensures { Writes self.old (word x ∷ []) self.new }
+    {
+        store(self.out, self.cursor.at, x);
+        self.cursor.at = self.cursor.at.saturating_add(1);
     }
-}
 
-// Appends an id, 0 where there is none.
-pub fn put_id(out: &mut [u32], c: Cursor, x: u32) -> Cursor
-    ensures { Put out.old c (id x ∷ []) out.new result }
-{
-    let at = c.at;
-    store(out, at, x);
-    let next = after(at);
-    if x == 0 {
-        Cursor {
-            at: next,
-            missed: 1,
-        }
-    } else {
-        Cursor {
-            at: next,
-            missed: c.missed,
+    // Appends an id, 0 where there is none.
+    pub fn put_id(&mut self, x: u32)
+        ensures { Writes self.old (id x ∷ []) self.new }
+    {
+        self.put_word(x);
+        if x == 0 {
+            self.cursor.missed = 1;
         }
     }
-}
 
-// The words of an instruction before its immediates: opcode, attributes, result type, result, and the count of immediates.
-pub fn put_head(
-    out: &mut [u32],
-    c: Cursor,
-    opcode: u32,
-    attrs: u32,
-    ty: u32,
-    res: u32,
-    imms: u32,
-) -> Cursor
-    ensures { Put out.old c (head_items opcode attrs ty res imms) out.new result }
-{
-    let c1 = put_word(out, c, opcode);
-    let c2 = put_word(out, c1, attrs);
-    let c3 = put_word(out, c2, ty);
-    let c4 = put_word(out, c3, res);
-    put_word(out, c4, imms)
+    // The words of an instruction before its immediates: opcode, attributes, result type, result, and the count of immediates.
+    pub fn put_head(&mut self, opcode: u32, attrs: u32, ty: u32, res: u32, imms: u32)
+        ensures { Writes self.old (head_items opcode attrs ty res imms) self.new }
+    {
+        self.put_word(opcode);
+        self.put_word(attrs);
+        self.put_word(ty);
+        self.put_word(res);
+        self.put_word(imms);
+    }
 }

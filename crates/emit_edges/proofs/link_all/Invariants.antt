@@ -5,6 +5,3 @@ use Rattle.emit_edges.proofs.link_all.Given as goal
 
 abbrev pub invariant-loop-i : goal.invariant-loop-i
 invariant-loop-i l = Passing l.func l.initial.work l.m l.work l.e l.i
-
-abbrev pub decreases-loop-i : goal.decreases-loop-i
-decreases-loop-i l = l.i

@@ -9,11 +9,11 @@ edge_count-k-requires c = c.requires.known
 pub loop-k-init : goal.loop-k-init
 loop-k-init c = linking_first c.requires.known c.requires.aimed c.requires.i_bound.0 c.requires.i_bound.1 c.requires.i_bound.2 c.edge_count-k.ensures
 
-pub edge_target-q-requires : goal.edge_target-q-requires
-edge_target-q-requires c = record { known = c.loop-k.invariant.known; aimed = c.loop-k.invariant.aimed; k_in_bounds = omega (arith, c.loop-k.invariant.below, c.loop-k-test.true) }
+pub edge_target-requires : goal.edge_target-requires
+edge_target-requires c = record { known = c.loop-k.invariant.known; aimed = c.loop-k.invariant.aimed; k_in_bounds = omega (arith, c.loop-k.invariant.below, c.loop-k-test.true) }
 
 pub link_edge-requires : goal.link_edge-requires
-link_edge-requires c = omega (arith, c.edge_target-q.ensures.upper_bound, c.loop-k.invariant.low, c.loop-k.invariant.below, c.loop-k.invariant.room, c.loop-k.invariant.count, c.loop-k.invariant.size, c.loop-k.invariant.same, c.loop-k-test.true)
+link_edge-requires c = omega (arith, c.edge_target.ensures.upper_bound, c.loop-k.invariant.low, c.loop-k.invariant.below, c.loop-k.invariant.room, c.loop-k.invariant.count, c.loop-k.invariant.size, c.loop-k.invariant.same, c.loop-k-test.true)
 
 pub overflow_add-at : goal.overflow_add-at
 overflow_add-at c = omega (arith, c.loop-k.invariant.count, c.loop-k.invariant.room)
@@ -21,7 +21,7 @@ overflow_add-at c = omega (arith, c.loop-k.invariant.count, c.loop-k.invariant.r
 pub loop-k-preserved : goal.loop-k-preserved
 loop-k-preserved c =
     linking_next c.loop-k.invariant c.loop-k-test.true
-    c.edge_target-q.ensures.value c.link_edge.ensures.work_after c.link_edge.ensures.work_len_unchanged
+    c.edge_target.ensures.value c.link_edge.ensures.work_after c.link_edge.ensures.work_len_unchanged
 
 pub shape_of-work : goal.shape_of-work
 shape_of-work c = c.loop-k.invariant.same

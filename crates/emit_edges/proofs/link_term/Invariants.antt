@@ -4,6 +4,3 @@ use Rattle.emit_edges.proofs.link_term.Given as goal
 
 abbrev pub invariant-loop-k : goal.invariant-loop-k
 invariant-loop-k l = Linking l.func l.initial.work l.w l.i l.e l.work l.at l.k
-
-abbrev pub decreases-loop-k : goal.decreases-loop-k
-decreases-loop-k l = l.k

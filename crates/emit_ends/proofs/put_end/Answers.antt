@@ -11,7 +11,7 @@ use Rattle.general_laws.specs.Members.{All}
 use Rattle.lifting_runs.specs.Refers.{Named, refers}
 use Rattle.walk_points.specs.Numbers.{Small}
 use Rattle.terminators.specs.Kinds.{merge_of_law}
-use Rattle.emit_words.specs.Put.{put_more, put_same}
+use Rattle.emit_words.specs.Writes.{writes_more, writes_same}
 use Rattle.emit_insts.specs.Parts.{merge_in, term_in}
 use Rattle.emit_insts.specs.Ready.{ready_visited}
 use Rattle.emit_insts.specs.Fits.{ins_named, merges_small, targets_small}
@@ -22,8 +22,8 @@ term_kind-w-requires c =
     let F = func_of c.args.func.now in
     record { visited = ready_visited c.requires.emit_ready c.args.i c.requires.i_lt_m; i_lt_m = c.requires.i_lt_m }
 
-pub put_merge-a-requires : goal.put_merge-a-requires
-put_merge-a-requires c =
+pub put_merge-requires : goal.put_merge-requires
+put_merge-requires c =
     let F = func_of c.args.func.now in
     let k = ready_visited c.requires.emit_ready c.args.i c.requires.i_lt_m in
     record {
@@ -51,5 +51,5 @@ pub returns : goal.returns
 returns c =
     let F = func_of c.args.func.now in
     let k = ready_visited c.requires.emit_ready c.args.i c.requires.i_lt_m in
-    put_same (put_more c.put_merge-a.ensures c.put_term.ensures)
+    writes_same (writes_more c.put_merge.ensures c.put_term.ensures)
     (ap₂ (λ (g : Merge) (t : Terminator). merge_in F c.args.first g ++ term_in F c.args.first t) (sym (ap (λ (t : Terminator). t.merge) c.term_kind-w.ensures.is ∙ merge_of_law F c.term_kind-w.result)) (sym c.term_kind-w.ensures.is))

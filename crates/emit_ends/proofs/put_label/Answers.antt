@@ -7,7 +7,7 @@ use Rattle.lifting.specs.Absorb.{kept}
 use Rattle.lifting.specs.Ids.{label_of}
 use Rattle.func.specs.Decode.{func_of}
 use Rattle.walk_points.specs.Numbers.{point_of}
-use Rattle.emit_words.specs.Put.{put_same}
+use Rattle.emit_words.specs.Writes.{writes_same}
 use Rattle.emit_insts.specs.Parts.{front_items, label_is}
 use Rattle.emit_ends.proofs.put_label.Goals as goal
 
@@ -15,6 +15,6 @@ pub returns : goal.returns
 unfolding label_of
 returns c =
     let F = func_of c.args.func.now in
-    put_same c.put_front.ensures
+    writes_same c.put_front.ensures
     (ap₂ (λ (o l : ℕ). front_items o 0 0 l [] 0) c.opcode.ensures (c.label_of.ensures ∙ c.requires.emit_ready.ids.label c.args.q c.requires.q_bound)
     ∙ sym (label_is F c.args.first (walk_of F) (kept (walk_of F)) (point_of c.args.q)))

@@ -7,7 +7,7 @@ use Rattle.lifting.specs.Absorb.{kept}
 use Rattle.lifting.specs.Instructions.{loop_control, selection_control, short}
 use Rattle.func.specs.Decode.{func_of}
 use Rattle.terminators.specs.Kinds.{merge_of}
-use Rattle.emit_words.specs.Put.{put_more, put_none, put_same}
+use Rattle.emit_words.specs.Writes.{writes_more, writes_none, writes_same}
 use Rattle.emit_insts.specs.Parts.{front_same, merge_none, merge_one, merge_two}
 use Rattle.emit_ends.proofs.put_merge.Goals as goal
 
@@ -16,41 +16,20 @@ returns-then-count-eq0 c =
     let F = func_of c.args.func.now in
     let g = merge_of c.args.w in
     let T = walk_of F in
-    put_same (put_none (omega arith) (omega arith)) (merge_none F c.args.first T (kept T) g (omega arith))
-
-pub put_merge_label-requires : goal.put_merge_label-requires
-put_merge_label-requires c =
-    let F = func_of c.args.func.now in
-    let g = merge_of c.args.w in
-    let T = walk_of F in
-    record { emit_ready = c.requires.emit_ready; known = c.requires.known; k_in_bounds = omega arith }
+    writes_same (writes_none (omega arith)) (merge_none F c.args.first T (kept T) g (omega arith))
 
 pub returns-then-count-eq1 : goal.returns-then-count-eq1
 returns-then-count-eq1 c =
     let F = func_of c.args.func.now in
     let g = merge_of c.args.w in
     let T = walk_of F in
-    put_same (put_more (put_same c.put_front-a.ensures (front_same _ c.opcode.ensures refl refl refl (ap (short selection_control) c.merge_control-u.ensures))) c.put_merge_label.ensures)
+    writes_same (writes_more (writes_same c.put_front.ensures (front_same _ c.opcode.ensures refl refl refl (ap (short selection_control) c.merge_control-u.ensures))) c.put_merge_label.ensures)
     (merge_one F c.args.first T (kept T) g (omega arith))
-
-pub put_merge_label-d-requires : goal.put_merge_label-d-requires
-put_merge_label-d-requires c =
-    let F = func_of c.args.func.now in
-    let g = merge_of c.args.w in
-    let T = walk_of F in
-    record { emit_ready = c.requires.emit_ready; known = c.requires.known; k_in_bounds = omega arith }
-
-pub put_merge_label-requires-2 : goal.put_merge_label-requires-2
-put_merge_label-requires-2 c =
-    let F = func_of c.args.func.now in
-    let g = merge_of c.args.w in
-    let T = walk_of F in
-    record { emit_ready = c.requires.emit_ready; known = c.requires.known; k_in_bounds = omega arith }
 
 pub returns : goal.returns
 returns c =
     let F = func_of c.args.func.now in
     let g = merge_of c.args.w in
     let T = walk_of F in
-    put_same (put_more (put_same c.put_front-b.ensures (front_same _ c.opcode-2.ensures refl refl refl (ap (short loop_control) c.merge_control-u.ensures))) (put_more c.put_merge_label-d.ensures c.put_merge_label-2.ensures))
+    writes_same (writes_more (writes_same c.put_front-2.ensures (front_same _ c.opcode-2.ensures refl refl refl (ap (short loop_control) c.merge_control-u.ensures))) (writes_more c.put_merge_label-2.ensures c.put_merge_label-3.ensures))
     (merge_two F c.args.first T (kept T) g (λ e. c.if-count-eq0.false (c.merges-count.ensures ∙ e)) (λ e. c.if-count-eq1.false (c.merges-count.ensures ∙ e)))

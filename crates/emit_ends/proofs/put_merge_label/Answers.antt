@@ -10,7 +10,8 @@ use Rattle.general_laws.specs.Members.{all_in, in_get_or}
 use Rattle.work.specs.Layout.{label_ids_at}
 use Rattle.walk_points.specs.Numbers.{Small, point_low}
 use Rattle.terminators.specs.Kinds.{merge_of}
-use Rattle.emit_words.specs.Put.{id, put_same}
+use Rattle.emit_words.specs.Put.Item.{id}
+use Rattle.emit_words.specs.Writes.{writes_same}
 use Rattle.emit_insts.specs.Ready.{label_at}
 use Rattle.emit_ends.proofs.put_merge_label.Goals as goal
 
@@ -24,5 +25,5 @@ pub returns : goal.returns
 returns c =
     let ps = merge_labels (merge_of c.args.w) in
     let s : Small (get_or ps c.args.k (region_entry 0)) = all_in Small ps c.requires.known.1 _ (in_get_or ps c.args.k (region_entry 0) c.requires.k_in_bounds) in
-    put_same c.put_id.ensures
+    writes_same c.put_id.ensures
     (ap (λ (x : ℕ). id x ∷ []) (c.label_of.ensures ∙ ap (λ (q : ℕ). get_or c.args.work.now (label_ids_at + q) 0) c.merge.ensures ∙ label_at c.requires.emit_ready (get_or ps c.args.k (region_entry 0)) s))

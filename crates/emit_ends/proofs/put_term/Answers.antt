@@ -9,17 +9,17 @@ use Rattle.func.specs.Decode.{func_of}
 use Rattle.general_laws.specs.Members.{All}
 use Rattle.lifting_runs.specs.Refers.{Named}
 use Rattle.terminators.specs.Kinds.{term_of}
-use Rattle.emit_words.specs.Put.{put_more, put_same}
+use Rattle.emit_words.specs.Writes.{writes_more, writes_same}
 use Rattle.emit_insts.specs.Parts.{term_is}
 use Rattle.emit_ends.proofs.put_term.Goals as goal
 
-pub put_front-a-requires : goal.put_front-a-requires
-put_front-a-requires c =
+pub put_front-requires : goal.put_front-requires
+put_front-requires c =
     let F = func_of c.args.func.now in
     record { tables = c.requires.emit_ready.laid.tables; imms_fit = c.term_imms.ensures.fits; ids_bound = omega (arith, c.value_count.ensures.upper_bound, c.targets.ensures.upper_bound) }
 
-pub put_values-b-requires : goal.put_values-b-requires
-put_values-b-requires c =
+pub put_values-requires : goal.put_values-requires
+put_values-requires c =
     let F = func_of c.args.func.now in
     record { emit_ready = c.requires.emit_ready; m_nonzero = c.requires.m_nonzero.0; values_fit = (c.term_ins-ins.ensures.fits, subst (All (Named F)) (sym c.term_ins-ins.ensures.is) c.requires.all.1) }
 
@@ -31,6 +31,6 @@ put_targets-requires c =
 pub returns : goal.returns
 returns c =
     let F = func_of c.args.func.now in
-    put_same (put_more c.put_front-a.ensures (put_more c.put_values-b.ensures c.put_targets.ensures))
+    writes_same (writes_more c.put_front.ensures (writes_more c.put_values.ensures c.put_targets.ensures))
     (term_is F c.args.first (walk_of F) (kept (walk_of F)) (term_of F c.args.w) _ _ _ _ _ c.term_opcode.ensures c.term_attrs.ensures c.term_imms.ensures.is c.term_ins-ins.ensures.is
     (omega (arith, c.value_count.ensures.value, c.targets.ensures.value)))

@@ -11,12 +11,6 @@ use Rattle.emit_id_runs.specs.Giving.{gives_nothing, gives_one}
 use Rattle.emit_names.specs.Standing.{not_here, number_is, starts_here}
 use Rattle.emit_id_runs.proofs.label_ids.Goals as goal
 
-pub overflow_add-q : goal.overflow_add-q
-overflow_add-q c = omega (arith, (number_is c.requires.laid c.args.i c.requires.i_lt_m.0 c.number-q.ensures).1)
-
-pub overflow_add-q-then-number-q : goal.overflow_add-q-then-number-q
-overflow_add-q-then-number-q c = omega (arith, (number_is c.requires.laid c.args.i c.requires.i_lt_m.0 c.number-q.ensures).1)
-
 pub give-requires : goal.give-requires
 give-requires c =
     let l = (number_is c.requires.laid c.args.i c.requires.i_lt_m.0 c.number-q.ensures).1 in

@@ -1,37 +1,22 @@
 -- The kind of the point says of what its phis are inputs or outputs, and so their word (`word_of`), which lies within the table of ids.
 use mathlib.Core.Path.{refl, sym, ap, ◌∙◌}
-use Prim.Native.Nat.{ℕ, ◌+◌}
 use native.Mathlib.Omega.{arith}
-use Rattle.work.specs.Layout.{input_ids_at}
 use Rattle.terminators.specs.Kinds.{as_point}
 use Rattle.terminators.specs.Laws.{of_text}
 use Rattle.emit_id_runs.specs.Giving.{word_of}
 use Rattle.emit_id_runs.proofs.phi_word.Goals as goal
 
 pub overflow_add-result : goal.overflow_add-result
-overflow_add-result c = omega (arith, (word_of c.requires.visited c.args.i c.requires.i_lt_m (ap as_point (sym c.in-RegionEntry.is) ∙ c.point-p.ensures) refl).1)
+overflow_add-result c = omega (arith, (word_of c.requires.visited c.args.i c.requires.i_lt_m (ap as_point (sym c.in-RegionEntry.is) ∙ c.point.ensures) refl).1)
 
 pub first_child-requires : goal.first_child-requires
-first_child-requires c = record { tables = c.requires.visited.tables; n_in_bounds = of_text c.requires.visited c.args.i c.requires.i_lt_m (ap as_point (sym c.in-NodeEntry.is) ∙ c.point-p.ensures) }
-
-pub overflow_add-result-in-NodeEntry : goal.overflow_add-result-in-NodeEntry
-overflow_add-result-in-NodeEntry c =
-    let e = ap (λ (x : ℕ). input_ids_at + x) c.first_child.ensures in
-    omega (arith, (word_of c.requires.visited c.args.i c.requires.i_lt_m (ap as_point (sym c.in-NodeEntry.is) ∙ c.point-p.ensures) e).1)
+first_child-requires c = record { tables = c.requires.visited.tables; n_in_bounds = of_text c.requires.visited c.args.i c.requires.i_lt_m (ap as_point (sym c.in-NodeEntry.is) ∙ c.point.ensures) }
 
 pub overflow_add-result-in-NodeExit : goal.overflow_add-result-in-NodeExit
-overflow_add-result-in-NodeExit c = omega (arith, (word_of c.requires.visited c.args.i c.requires.i_lt_m (ap as_point (sym c.in-NodeExit.is) ∙ c.point-p.ensures) refl).1)
+overflow_add-result-in-NodeExit c = omega (arith, (word_of c.requires.visited c.args.i c.requires.i_lt_m (ap as_point (sym c.in-NodeExit.is) ∙ c.point.ensures) refl).1)
 
 pub returns-in-RegionEntry : goal.returns-in-RegionEntry
-returns-in-RegionEntry c = record { value = (word_of c.requires.visited c.args.i c.requires.i_lt_m (ap as_point (sym c.in-RegionEntry.is) ∙ c.point-p.ensures) refl).0; upper_bound = (word_of c.requires.visited c.args.i c.requires.i_lt_m (ap as_point (sym c.in-RegionEntry.is) ∙ c.point-p.ensures) refl).1 }
-
-pub returns-in-RegionExit : goal.returns-in-RegionExit
-returns-in-RegionExit c = record { value = (word_of c.requires.visited c.args.i c.requires.i_lt_m (ap as_point (sym c.in-RegionExit.is) ∙ c.point-p.ensures) refl).0; upper_bound = (word_of c.requires.visited c.args.i c.requires.i_lt_m (ap as_point (sym c.in-RegionExit.is) ∙ c.point-p.ensures) refl).1 }
-
-pub returns-in-NodeEntry : goal.returns-in-NodeEntry
-returns-in-NodeEntry c =
-    let e = ap (λ (x : ℕ). input_ids_at + x) c.first_child.ensures in
-    record { value = (word_of c.requires.visited c.args.i c.requires.i_lt_m (ap as_point (sym c.in-NodeEntry.is) ∙ c.point-p.ensures) e).0; upper_bound = (word_of c.requires.visited c.args.i c.requires.i_lt_m (ap as_point (sym c.in-NodeEntry.is) ∙ c.point-p.ensures) e).1 }
+returns-in-RegionEntry c = record { value = (word_of c.requires.visited c.args.i c.requires.i_lt_m (ap as_point (sym c.in-RegionEntry.is) ∙ c.point.ensures) refl).0; upper_bound = (word_of c.requires.visited c.args.i c.requires.i_lt_m (ap as_point (sym c.in-RegionEntry.is) ∙ c.point.ensures) refl).1 }
 
 pub returns-in-NodeExit : goal.returns-in-NodeExit
-returns-in-NodeExit c = record { value = (word_of c.requires.visited c.args.i c.requires.i_lt_m (ap as_point (sym c.in-NodeExit.is) ∙ c.point-p.ensures) refl).0; upper_bound = (word_of c.requires.visited c.args.i c.requires.i_lt_m (ap as_point (sym c.in-NodeExit.is) ∙ c.point-p.ensures) refl).1 }
+returns-in-NodeExit c = record { value = (word_of c.requires.visited c.args.i c.requires.i_lt_m (ap as_point (sym c.in-NodeExit.is) ∙ c.point.ensures) refl).0; upper_bound = (word_of c.requires.visited c.args.i c.requires.i_lt_m (ap as_point (sym c.in-NodeExit.is) ∙ c.point.ensures) refl).1 }

@@ -1,17 +1,13 @@
--- The loop's invariant: the labels of the first k targets are appended. The measure is how many are left; each target's number is below 512, and
--- there the table holds its label (`label_at`).
-use Prim.Native.Nat.{◌-◌}
-use lib.ListN.{get_or, length}
-use mathlib.Core.List.{[], ◌∷◌}
+-- The loop's invariant: the labels of the first k targets are appended. Each target's number is below 512, and there the table holds its label
+-- (`label_at`).
+use Rattle.std.proofs.Common.{[], ◌∷◌, get_or, length}
 use Rattle.lifting.specs.Points.{region_entry}
 use Rattle.func.specs.Decode.{func_of}
 use Rattle.terminators.specs.Kinds.{term_of}
-use Rattle.emit_words.specs.Put.{Loop, id}
 use Rattle.emit_names.specs.Ids.{label_in}
+use Rattle.emit_words.specs.Put.Item.{id}
+use Rattle.emit_words.specs.Writes.{Loop}
 use Rattle.emit_insts.proofs.put_targets.Given as goal
 
 abbrev pub invariant-loop-k : goal.invariant-loop-k
-invariant-loop-k l = Loop (λ j. id (label_in (func_of l.func) l.first (get_or (term_of (func_of l.func) l.w).targets j (region_entry 0))) ∷ []) (length (term_of (func_of l.func) l.w).targets) l.initial.out l.initial.d l.k l.out l.d
-
-abbrev pub decreases-loop-k : goal.decreases-loop-k
-decreases-loop-k l = l.n - l.k
+invariant-loop-k l = Loop (λ j. id (label_in (func_of l.func) l.first (get_or (term_of (func_of l.func) l.w).targets j (region_entry 0))) ∷ []) (length (term_of (func_of l.func) l.w).targets) l.initial.out l.k l.out

@@ -1,17 +1,12 @@
--- The loop's invariant: the ids of the first k values are appended. The measure is how many are left; each value of the list names something, so
--- that it has an id.
-use Prim.Native.Nat.{◌-◌}
-use lib.ListN.{get_or, length}
-use mathlib.Core.List.{[], ◌∷◌}
+-- The loop's invariant: the ids of the first k values are appended. Each value of the list names something, so that it has an id.
+use Rattle.std.proofs.Common.{[], ◌∷◌, get_or, length}
 use Rattle.lifting.specs.Ast.{const}
 use Rattle.func.specs.Decode.{func_of}
 use Rattle.emit_lists.specs.Named.{values_of}
-use Rattle.emit_words.specs.Put.{Loop, id}
 use Rattle.emit_names.specs.Ids.{id_in}
+use Rattle.emit_words.specs.Put.Item.{id}
+use Rattle.emit_words.specs.Writes.{Loop}
 use Rattle.emit_insts.proofs.put_values.Given as goal
 
 abbrev pub invariant-loop-k : goal.invariant-loop-k
-invariant-loop-k l = Loop (λ j. id (id_in (func_of l.func) l.first (get_or (values_of (func_of l.func) l.l) j (const 0))) ∷ []) (length (values_of (func_of l.func) l.l)) l.initial.out l.initial.d l.k l.out l.d
-
-abbrev pub decreases-loop-k : goal.decreases-loop-k
-decreases-loop-k l = l.n - l.k
+invariant-loop-k l = Loop (λ j. id (id_in (func_of l.func) l.first (get_or (values_of (func_of l.func) l.l) j (const 0))) ∷ []) (length (values_of (func_of l.func) l.l)) l.initial.out l.k l.out

@@ -4,7 +4,8 @@ use mathlib.Core.Path.{refl, ap}
 use mathlib.Core.List.{[], ◌∷◌}
 use Prim.Native.Nat.{ℕ, ◌-◌}
 use Rattle.func.specs.Decode.{func_of}
-use Rattle.emit_words.specs.Put.{id, put_more, put_same}
+use Rattle.emit_words.specs.Put.Item.{id}
+use Rattle.emit_words.specs.Writes.{writes_more, writes_same}
 use Rattle.emit_insts.specs.Parts.{front_same}
 use Rattle.lifting.specs.Instructions.{function_control, short}
 use Rattle.emit_list.specs.Points.{head_is}
@@ -13,6 +14,6 @@ use Rattle.emit_list.proofs.put_function.Goals as goal
 pub returns : goal.returns
 returns c =
     let F = func_of c.args.func.now in
-    put_same
-    (put_more (put_same c.put_front-a.ensures (front_same _ c.opcode.ensures c.func_attrs-attrs.ensures c.func_ret-ret.ensures refl (ap (short function_control) c.func_control.ensures)))
-    (put_same c.put_id.ensures (ap (λ (x : ℕ). id x ∷ []) c.func_type.ensures))) (head_is F c.args.first)
+    writes_same
+    (writes_more (writes_same c.put_front.ensures (front_same _ c.opcode.ensures c.func_attrs-attrs.ensures c.func_ret-ret.ensures refl (ap (short function_control) c.func_control.ensures)))
+    (writes_same c.put_id.ensures (ap (λ (x : ℕ). id x ∷ []) c.func_type.ensures))) (head_is F c.args.first)

@@ -1,7 +1,7 @@
 -- The function's end is a front alone, with no ids behind it (`last_is`).
 use mathlib.Core.Path.{refl, ◌∙◌}
 use Rattle.func.specs.Decode.{func_of}
-use Rattle.emit_words.specs.Put.{put_same}
+use Rattle.emit_words.specs.Writes.{writes_same}
 use Rattle.emit_insts.specs.Parts.{front_same}
 use Rattle.emit_list.specs.Points.{last_is}
 use Rattle.emit_list.proofs.put_last.Goals as goal
@@ -9,4 +9,4 @@ use Rattle.emit_list.proofs.put_last.Goals as goal
 pub returns : goal.returns
 returns c =
     let F = func_of c.args.func.now in
-    put_same c.put_front.ensures (front_same _ c.opcode.ensures refl refl refl refl ∙ last_is F c.args.first)
+    writes_same c.put_front.ensures (front_same _ c.opcode.ensures refl refl refl refl ∙ last_is F c.args.first)

@@ -2,7 +2,8 @@
 use mathlib.Core.Path.{sym, ap}
 use Rattle.func.specs.Decode.{func_of}
 use Rattle.lifting_blocks.specs.Flat.{up_to}
-use Rattle.emit_words.specs.Put.{put_more, put_same}
+use Rattle.std.proofs.Common.{arith, rules}
+use Rattle.emit_words.specs.Writes.{writes_end, writes_more, writes_same}
 use Rattle.emit_list.specs.Points.{list_is, point_items}
 use Rattle.emit_list.specs.Over.{shaped_passes}
 use Rattle.emit_list.proofs.put_list.Goals as goal
@@ -10,7 +11,9 @@ use Rattle.emit_list.proofs.put_list.Goals as goal
 pub returns : goal.returns
 returns c =
     let F = func_of c.args.func.now in
-    put_same
-    (put_more c.put_function-a.ensures (put_more c.put_params-b.ensures
-    (put_more (put_same c.put_points-d.ensures (ap (up_to (point_items F c.args.first)) c.requires.ready.laid.count)) c.put_last.ensures)))
-    (sym (list_is F c.args.first (shaped_passes F c.requires.ready.stands.passes)))
+    writes_end
+    (writes_same
+    (writes_more c.put_function.ensures (writes_more c.put_params.ensures
+    (writes_more (writes_same c.put_points.ensures (ap (up_to (point_items F c.args.first)) c.requires.ready.laid.count)) c.put_last.ensures)))
+    (sym (list_is F c.args.first (shaped_passes F c.requires.ready.stands.passes))))
+    (omega arith) (search rules)

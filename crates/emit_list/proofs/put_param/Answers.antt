@@ -5,7 +5,7 @@ use Prim.Native.Nat.{◌-◌, ◌≤◌}
 use native.Mathlib.Omega.{arith}
 use borrow.Author.Rules.{rules}
 use Rattle.func.specs.Decode.{func_of}
-use Rattle.emit_words.specs.Put.{put_same}
+use Rattle.emit_words.specs.Writes.{writes_same}
 use Rattle.emit_insts.specs.Parts.{front_same}
 use Rattle.emit_list.specs.Points.{param_items_law}
 use Rattle.func.proofs.Tables.{few_params}
@@ -24,4 +24,4 @@ overflow_add-result-2 c =
 pub returns : goal.returns
 returns c =
     let F = func_of c.args.func.now in
-    put_same c.put_front.ensures (front_same _ c.opcode.ensures refl refl refl refl ∙ param_items_law F c.args.first c.args.i c.requires.i_in_bounds.0 _ _ _ c.param_attrs-attrs.ensures c.param_type-ty.ensures refl)
+    writes_same c.put_front.ensures (front_same _ c.opcode.ensures refl refl refl refl ∙ param_items_law F c.args.first c.args.i c.requires.i_in_bounds.0 _ _ _ c.param_attrs-attrs.ensures c.param_type-ty.ensures refl)

@@ -3,12 +3,9 @@
 use Prim.Native.Nat.{◌-◌}
 use lib.ListN.{length}
 use Rattle.func.specs.Decode.{func_of}
-use Rattle.emit_words.specs.Put.{Loop}
+use Rattle.emit_words.specs.Writes.{Loop}
 use Rattle.emit_list.specs.Points.{param_in}
 use Rattle.emit_list.proofs.put_params.Given as goal
 
 abbrev pub invariant-loop-k : goal.invariant-loop-k
-invariant-loop-k l = Loop (param_in (func_of l.func) l.first) (length (func_of l.func).params) l.initial.out l.initial.d l.k l.out l.d
-
-abbrev pub decreases-loop-k : goal.decreases-loop-k
-decreases-loop-k l = l.n - l.k
+invariant-loop-k l = Loop (param_in (func_of l.func) l.first) (length (func_of l.func).params) l.initial.out l.k l.out

@@ -9,15 +9,18 @@ use Rattle.terminators.specs.At.{point_at}
 use Rattle.lifting_blocks.specs.Flat.{Status}
 use Rattle.block_absorbs.specs.Absorbs.{stands, status_word, word_gone}
 use Rattle.emit_names.specs.Standing.{not_here, number_is, starts_here}
-use Rattle.emit_words.specs.Put.{put_more, put_none, put_same}
-use Rattle.emit_list.specs.Points.{items_gone, items_goes, items_starts}
+use Rattle.std.proofs.Common.{subst, ◌++◌}
+use Rattle.emit_words.specs.declared.Writer.{Writer}
+use Rattle.emit_words.specs.Writes.{Writes, writes_more, writes_none, writes_same}
+use Rattle.emit_list.specs.Points.{end_at, items_gone, items_goes, items_starts, op_items_at}
 use Rattle.emit_list.specs.Laws.{goes_with}
+use Rattle.emit_list.proofs.put_point.Goals.{then-s-number, else-s-number}
 use Rattle.emit_list.proofs.put_point.Goals as goal
 
 pub returns-then-s-eq0 : goal.returns-then-s-eq0
 returns-then-s-eq0 c =
     let F = func_of c.args.func.now in
-    put_same (put_none (omega arith) (omega arith))
+    writes_same (writes_none (omega arith))
     (sym (items_gone F c.args.first c.args.i (word_gone (stands F c.args.i) (point_at F c.args.i) (sym (c.requires.over.ready.laid.absorbing.status c.args.i c.requires.i_lt_m) ∙ sym c.number-s.ensures ∙ c.if-s-eq0.true))))
 
 pub overflow_add-number : goal.overflow_add-number
@@ -25,20 +28,22 @@ overflow_add-number c =
     let F = func_of c.args.func.now in
     let f = (number_is c.requires.over.ready.laid c.args.i c.requires.i_lt_m c.number.ensures).1 in search rules
 
-pub put_start-a-requires : goal.put_start-a-requires
-put_start-a-requires c =
+pub put_start-requires : goal.put_start-requires
+put_start-requires c =
     let F = func_of c.args.func.now in
     record { over = c.requires.over; i_lt_m = (c.requires.i_lt_m, starts_here c.requires.over.ready.laid c.args.i c.requires.i_lt_m c.number.ensures c.number-s.ensures c.if-s-number.true) }
-
-pub returns-then-s-number : goal.returns-then-s-number
-returns-then-s-number c =
-    let F = func_of c.args.func.now in
-    let s = starts_here c.requires.over.ready.laid c.args.i c.requires.i_lt_m c.number.ensures c.number-s.ensures c.if-s-number.true in
-    put_same (put_more c.put_start-a.ensures c.put_rest.ensures) (sym (items_starts F c.args.first c.args.i s))
 
 pub returns : goal.returns
 returns c =
     let F = func_of c.args.func.now in
-    let n = not_here c.requires.over.ready.laid c.args.i c.requires.i_lt_m c.number.ensures c.number-s.ensures c.if-s-number.false in
-    let g = goes_with (stands F c.args.i) (λ e. c.if-s-eq0.false (c.number-s.ensures ∙ c.requires.over.ready.laid.absorbing.status c.args.i c.requires.i_lt_m ∙ ap (λ (s : Status). status_word s (point_at F c.args.i)) e)) n in
-    put_same c.put_rest-2.ensures (sym (items_goes F c.args.first c.args.i g.1))
+    elim c.if-s-number.branch [
+      | then-s-number w ↦
+          let s = starts_here c.requires.over.ready.laid c.args.i c.requires.i_lt_m c.number.ensures c.number-s.ensures w.if-s-number.true in
+          writes_same (writes_more w.put_start.ensures (subst (λ (o : Writer). Writes o (op_items_at F c.args.first c.args.i ++ end_at F c.args.first c.args.i) c.put_rest.new.out) w.out-is c.put_rest.ensures))
+          (sym (items_starts F c.args.first c.args.i s))
+      | else-s-number w ↦
+          let n = not_here c.requires.over.ready.laid c.args.i c.requires.i_lt_m c.number.ensures c.number-s.ensures w.if-s-number.false in
+          let g = goes_with (stands F c.args.i) (λ e. c.if-s-eq0.false (c.number-s.ensures ∙ c.requires.over.ready.laid.absorbing.status c.args.i c.requires.i_lt_m ∙ ap (λ (s : Status). status_word s (point_at F c.args.i)) e)) n in
+          writes_same (subst (λ (o : Writer). Writes o (op_items_at F c.args.first c.args.i ++ end_at F c.args.first c.args.i) c.put_rest.new.out) w.out-is c.put_rest.ensures)
+          (sym (items_goes F c.args.first c.args.i g.1))
+    ]

@@ -2,21 +2,14 @@
 use Prim.Native.Nat.{◌-◌}
 use native.Mathlib.Omega.{arith}
 use borrow.Author.Rules.{rules}
-use Rattle.emit_words.specs.Put.{loop_end, loop_start, loop_turn, put_length}
+use Rattle.emit_words.specs.Writes.{loop_end, loop_start, loop_turn}
 use Rattle.emit_list.proofs.put_points.Goals as goal
 
 pub loop-k-init : goal.loop-k-init
-loop-k-init c = loop_start _ _ (omega arith) (omega arith)
-
-pub loop-k-smaller : goal.loop-k-smaller
-loop-k-smaller c = omega arith
+loop-k-init c = loop_start _ _ (omega arith)
 
 pub loop-k-preserved : goal.loop-k-preserved
-loop-k-preserved c = loop_turn c.loop-k.invariant (omega arith) c.put_point-d.ensures
-
-pub shape_of-out : goal.shape_of-out
-shape_of-out c =
-    let l = put_length c.loop-k.invariant.put in search rules
+loop-k-preserved c = loop_turn c.loop-k.invariant (omega arith) c.put_point.ensures
 
 pub returns : goal.returns
 returns c = loop_end c.loop-k.invariant (omega arith)

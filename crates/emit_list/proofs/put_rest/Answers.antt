@@ -6,7 +6,7 @@ use Prim.Native.Nat.{◌+◌, ◌-◌}
 use Rattle.func.specs.Decode.{func_of}
 use Rattle.terminators.specs.At.{visited_block}
 use Rattle.block_absorbs.specs.Absorbs.{absorbs}
-use Rattle.emit_words.specs.Put.{put_more, put_same}
+use Rattle.emit_words.specs.Writes.{writes_more, writes_same}
 use Rattle.emit_list.specs.Points.{end_if, op_items_at}
 use Rattle.emit_list.specs.Laws.{absorbs_false, absorbs_true}
 use Rattle.emit_list.proofs.put_rest.Goals as goal
@@ -14,12 +14,12 @@ use Rattle.emit_list.proofs.put_rest.Goals as goal
 pub returns-then-word-eq1 : goal.returns-then-word-eq1
 returns-then-word-eq1 c =
     let F = func_of c.args.func.now in
-    put_same c.put_ops-a.ensures
+    writes_same c.put_ops.ensures
     (sym (append-nil (op_items_at F c.args.first c.args.i))
     ∙ ap (λ (b : Bool). op_items_at F c.args.first c.args.i ++ end_if F c.args.first b (visited_block F c.args.i).term) (sym (absorbs_true (absorbs F c.args.i) (sym (c.word.ensures ∙ c.requires.over.ready.laid.absorbing.absorb c.args.i c.requires.i_lt_m) ∙ c.if-word-eq1.true))))
 
 pub returns : goal.returns
 returns c =
     let F = func_of c.args.func.now in
-    put_same (put_more c.put_ops-a.ensures c.put_end.ensures)
+    writes_same (writes_more c.put_ops.ensures c.put_end.ensures)
     (ap (λ (b : Bool). op_items_at F c.args.first c.args.i ++ end_if F c.args.first b (visited_block F c.args.i).term) (sym (absorbs_false (absorbs F c.args.i) (λ e. c.if-word-eq1.false (c.word.ensures ∙ c.requires.over.ready.laid.absorbing.absorb c.args.i c.requires.i_lt_m ∙ e)))))

@@ -6,13 +6,13 @@ use Rattle.func.specs.Decode.{func_of}
 use Rattle.walk_points.specs.Numbers.{point_low, point_of}
 use Rattle.terminators.specs.At.{point_at}
 use Rattle.terminators.specs.Visited.{point_small, point_word, point_read}
-use Rattle.emit_words.specs.Put.{put_more, put_same}
+use Rattle.emit_words.specs.Writes.{writes_more, writes_same}
 use Rattle.emit_insts.specs.Parts.{start_in}
 use Rattle.emit_insts.specs.Ready.{ready_visited}
 use Rattle.emit_list.proofs.put_start.Goals as goal
 
-pub put_label-a-requires : goal.put_label-a-requires
-put_label-a-requires c =
+pub put_label-requires : goal.put_label-requires
+put_label-requires c =
     let F = func_of c.args.func.now in
     let k = ready_visited c.requires.over.ready c.args.i c.requires.i_lt_m.0 in
     record { emit_ready = c.requires.over.ready; q_bound = omega (arith, c.number-q.ensures, point_word k c.args.i c.requires.i_lt_m.0, point_low (point_at F c.args.i) (point_small k c.args.i c.requires.i_lt_m.0)) }
@@ -24,4 +24,4 @@ pub returns : goal.returns
 returns c =
     let F = func_of c.args.func.now in
     let k = ready_visited c.requires.over.ready c.args.i c.requires.i_lt_m.0 in
-    put_more (put_same c.put_label-a.ensures (ap (start_in F c.args.first) (ap point_of c.number-q.ensures ∙ sym (point_read k c.args.i c.requires.i_lt_m.0)))) c.put_phis.ensures
+    writes_more (writes_same c.put_label.ensures (ap (start_in F c.args.first) (ap point_of c.number-q.ensures ∙ sym (point_read k c.args.i c.requires.i_lt_m.0)))) c.put_phis.ensures

@@ -5,13 +5,13 @@ use Rattle.lifting.specs.Walk.{walk_of}
 use Rattle.lifting.specs.Absorb.{kept}
 use Rattle.lifting.specs.Instructions.{result_id}
 use Rattle.func.specs.Decode.{func_of}
-use Rattle.emit_words.specs.Put.{put_same}
+use Rattle.emit_words.specs.Writes.{writes_same}
 use Rattle.emit_insts.specs.Parts.{front_same}
 use Rattle.emit_ops.proofs.op_front.Goals as goal
 
 pub returns : goal.returns
 returns c =
     let F = func_of c.args.func.now in
-    put_same c.put_front.ensures
+    writes_same c.put_front.ensures
     (front_same _ c.op_opcode.ensures c.op_attrs.ensures c.op_type-ty.ensures
     (c.result_of-result.ensures ∙ ap (λ (t : ℕ). result_id F c.args.first (walk_of F) (kept (walk_of F)) t c.args.o) c.op_type-ty.ensures) c.op_imms-imms.ensures.is)

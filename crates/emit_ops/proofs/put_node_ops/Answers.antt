@@ -9,26 +9,16 @@ use Rattle.lifting.specs.Parts.{block_ops, node_of}
 use Rattle.func.specs.Decode.{func_of}
 use Rattle.general_laws.specs.Members.{in_get_or}
 use Rattle.lifting_runs.specs.Refers.{refers}
-use Rattle.emit_words.specs.Put.{loop_end, loop_start, loop_turn, put_length, put_same}
-use Rattle.emit_insts.specs.Parts.{op_in, up_to_gather}
+use Rattle.emit_words.specs.Writes.{loop_start, loop_turn, writes_same}
+use Rattle.emit_insts.specs.Parts.{op_in, loop_gather}
 use Rattle.emit_insts.specs.Fits.{node_ops_low}
 use Rattle.emit_ops.proofs.put_node_ops.Goals as goal
 
-pub node_op_count-count-requires : goal.node_op_count-count-requires
-node_op_count-count-requires c =
-    let F = func_of c.args.func.now in
-    record { tables = c.requires.emit_ready.laid.tables; n_in_bounds = c.requires.m_nonzero.1 }
-
 pub loop-k-init : goal.loop-k-init
-loop-k-init c = loop_start _ _ (omega arith) (omega arith)
+loop-k-init c = loop_start _ _ (omega arith)
 
-pub node_op-requires : goal.node_op-requires
-node_op-requires c =
-    let F = func_of c.args.func.now in
-    record { tables = c.requires.emit_ready.laid.tables; n_in_bounds = c.requires.m_nonzero.1; i_in_bounds = omega (arith, c.node_op_count-count.ensures) }
-
-pub put_op-d-requires : goal.put_op-d-requires
-put_op-d-requires c =
+pub put_op-requires : goal.put_op-requires
+put_op-requires c =
     let F = func_of c.args.func.now in
     let is = block_ops (node_of F c.args.n) in
     record {
@@ -36,23 +26,16 @@ put_op-d-requires c =
       m_nonzero = (
         c.requires.m_nonzero.0,
         subst (λ (o : ℕ). o < length F.ops) (sym c.node_op.ensures)
-            (node_ops_low F (refers F c.requires.emit_ready.stands.passes.references) c.args.n _ (in_get_or is c.loop-k.k 0 (omega (arith, c.node_op_count-count.ensures)))),
+            (node_ops_low F (refers F c.requires.emit_ready.stands.passes.references) c.args.n _ (in_get_or is c.loop-k.k 0 (omega (arith, c.node_op_count-k-end.ensures)))),
       );
     }
-
-pub loop-k-smaller : goal.loop-k-smaller
-loop-k-smaller c = omega arith
 
 pub loop-k-preserved : goal.loop-k-preserved
 loop-k-preserved c =
     let F = func_of c.args.func.now in
-    loop_turn c.loop-k.invariant (omega (arith, c.node_op_count-count.ensures)) (put_same c.put_op-d.ensures (ap (op_in F c.args.first) c.node_op.ensures))
-
-pub shape_of-out : goal.shape_of-out
-shape_of-out c =
-    let l = put_length c.loop-k.invariant.put in search rules
+    loop_turn c.loop-k.invariant (omega (arith, c.node_op_count-k-end.ensures)) (writes_same c.put_op.ensures (ap (op_in F c.args.first) c.node_op.ensures))
 
 pub returns : goal.returns
 returns c =
     let F = func_of c.args.func.now in
-    put_same (loop_end c.loop-k.invariant (omega (arith, c.node_op_count-count.ensures))) (up_to_gather (op_in F c.args.first) (block_ops (node_of F c.args.n)) 0)
+    loop_gather (op_in F c.args.first) (block_ops (node_of F c.args.n)) 0 c.loop-k.invariant (omega arith)

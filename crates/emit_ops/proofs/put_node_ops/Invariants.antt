@@ -4,12 +4,9 @@ use Prim.Native.Nat.{◌-◌}
 use lib.ListN.{get_or, length}
 use Rattle.lifting.specs.Parts.{block_ops, node_of}
 use Rattle.func.specs.Decode.{func_of}
-use Rattle.emit_words.specs.Put.{Loop}
+use Rattle.emit_words.specs.Writes.{Loop}
 use Rattle.emit_insts.specs.Parts.{op_in}
 use Rattle.emit_ops.proofs.put_node_ops.Given as goal
 
 abbrev pub invariant-loop-k : goal.invariant-loop-k
-invariant-loop-k l = Loop (λ j. op_in (func_of l.func) l.first (get_or (block_ops (node_of (func_of l.func) l.n)) j 0)) (length (block_ops (node_of (func_of l.func) l.n))) l.initial.out l.initial.d l.k l.out l.d
-
-abbrev pub decreases-loop-k : goal.decreases-loop-k
-decreases-loop-k l = l.count - l.k
+invariant-loop-k l = Loop (λ j. op_in (func_of l.func) l.first (get_or (block_ops (node_of (func_of l.func) l.n)) j 0)) (length (block_ops (node_of (func_of l.func) l.n))) l.initial.out l.k l.out

@@ -6,12 +6,12 @@ use Rattle.lifting.specs.Walk.{walk_of}
 use Rattle.lifting.specs.Absorb.{kept}
 use Rattle.func.specs.Decode.{func_of}
 use Rattle.lifting_runs.specs.Refers.{refers}
-use Rattle.emit_words.specs.Put.{put_more, put_same}
+use Rattle.emit_words.specs.Writes.{writes_more, writes_same}
 use Rattle.emit_insts.specs.Parts.{op_is}
 use Rattle.emit_ops.proofs.put_op.Goals as goal
 
-pub op_front-a-requires : goal.op_front-a-requires
-op_front-a-requires c =
+pub op_front-requires : goal.op_front-requires
+op_front-requires c =
     let F = func_of c.args.func.now in
     record { emit_ready = c.requires.emit_ready; o_in_bounds = (c.requires.m_nonzero.1, omega (arith, c.value_count.ensures.upper_bound, c.callee_count.ensures.upper_bound)) }
 
@@ -23,5 +23,5 @@ put_values-requires c =
 pub returns : goal.returns
 returns c =
     let F = func_of c.args.func.now in
-    put_same (put_more c.op_front-a.ensures (put_more c.put_callee-b.ensures c.put_values.ensures))
+    writes_same (writes_more c.op_front.ensures (writes_more c.put_callee.ensures c.put_values.ensures))
     (op_is F c.args.first (walk_of F) (kept (walk_of F)) c.args.o _ _ (omega (arith, c.value_count.ensures.value, c.callee_count.ensures.value)) c.callee-called.ensures)

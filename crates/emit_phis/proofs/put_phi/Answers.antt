@@ -6,31 +6,22 @@ use Rattle.lifting.specs.Ast.{Decl}
 use Rattle.func.specs.Decode.{func_of}
 use Rattle.lifting_runs.specs.Refers.{Named}
 use Rattle.emit_names.specs.Ids.{id_in}
-use Rattle.emit_words.specs.Put.{put_more, put_same}
+use Rattle.emit_words.specs.Writes.{writes_more, writes_same}
 use Rattle.emit_insts.specs.Ready.{ready_visited}
 use Rattle.emit_phis.specs.Items.{phi_runs}
 use Rattle.emit_phis.proofs.Steps.{ids_are, key_names}
 use Rattle.emit_phis.proofs.put_phi.Goals as goal
 
-pub phi_value-requires : goal.phi_value-requires
-phi_value-requires c = record { visited = ready_visited c.requires.emit_ready c.args.i c.requires.i_lt_m.0; i_lt_m = c.requires.i_lt_m.0; j_in_bounds = c.requires.i_lt_m.1 }
-
 pub id_of-result-requires : goal.id_of-result-requires
 id_of-result-requires c = record { emit_ready = c.requires.emit_ready; m_nonzero = omega (arith, c.requires.i_lt_m.0); v_value = subst (Named (func_of c.args.func.now)) (sym c.phi_value.ensures) (key_names c.requires.emit_ready c.args.i c.args.j c.requires.i_lt_m.0 c.requires.i_lt_m.1) }
 
-pub phi_decl-decl-requires : goal.phi_decl-decl-requires
-phi_decl-decl-requires c = record { visited = ready_visited c.requires.emit_ready c.args.i c.requires.i_lt_m.0; i_lt_m = c.requires.i_lt_m.0; j_in_bounds = omega (arith, c.requires.i_lt_m.1) }
-
-pub put_front-a-requires : goal.put_front-a-requires
-put_front-a-requires c = record { tables = c.requires.emit_ready.laid.tables; imms_fit = tt; ids_bound = omega (arith, c.requires.ids_value.1) }
-
-pub put_pairs-requires : goal.put_pairs-requires
-put_pairs-requires c = record { emit_ready = c.requires.emit_ready; linked = c.requires.linked; i_lt_m = (c.requires.i_lt_m.0, omega (arith, c.requires.i_lt_m.1)); first_into = c.requires.first_into }
+pub put_front-requires : goal.put_front-requires
+put_front-requires c = record { tables = c.requires.emit_ready.laid.tables; imms_fit = tt; ids_bound = omega (arith, c.requires.ids_value.1) }
 
 pub returns : goal.returns
 returns c =
     let F = func_of c.args.func.now in
-    put_same (put_more c.put_front-a.ensures c.put_pairs.ensures)
+    writes_same (writes_more c.put_front.ensures c.put_pairs.ensures)
     (phi_runs F c.args.first c.args.i c.args.j c.opcode.ensures (ap (λ (x : Decl). x.attrs) c.phi_decl-decl.ensures) (ap (λ (x : Decl). x.type) c.phi_decl-decl.ensures)
     (c.id_of-result.ensures ∙ ap (id_in F c.args.first) c.phi_value.ensures)
     (ids_are c.requires.emit_ready c.args.i c.args.j c.requires.i_lt_m.0 c.requires.i_lt_m.1 c.requires.ids_value.0))

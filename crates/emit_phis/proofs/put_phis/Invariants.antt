@@ -4,12 +4,9 @@ use Prim.Native.Nat.{◌-◌}
 use lib.ListN.{length}
 use Rattle.func.specs.Decode.{func_of}
 use Rattle.terminators.specs.At.{visited_block}
-use Rattle.emit_words.specs.Put.{Loop}
+use Rattle.emit_words.specs.Writes.{Loop}
 use Rattle.emit_phis.specs.Items.{phi_in}
 use Rattle.emit_phis.proofs.put_phis.Given as goal
 
 abbrev pub invariant-loop-j : goal.invariant-loop-j
-invariant-loop-j l = Loop (phi_in (func_of l.func) l.first l.i) (length (visited_block (func_of l.func) l.i).keys) l.initial.out l.initial.d l.j l.out l.d
-
-abbrev pub decreases-loop-j : goal.decreases-loop-j
-decreases-loop-j l = l.n - l.j
+invariant-loop-j l = Loop (phi_in (func_of l.func) l.first l.i) (length (visited_block (func_of l.func) l.i).keys) l.initial.out l.j l.out

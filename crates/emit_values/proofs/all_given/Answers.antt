@@ -1,8 +1,7 @@
 -- The loop's invariant: all values have ids if those from the i-th on do. The measure is how many are left.
 use mathlib.Core.Path.{sym, ap, ◌∙◌}
-use Prim.Native.Nat.{◌-◌, ◌<◌}
+use Prim.Native.Nat.{◌<◌}
 use native.Mathlib.Omega.{arith}
-use lib.Dec.{lit<}
 use lib.ListN.{length}
 use Rattle.general_laws.specs.Every.{every_next, every_stop, rest_end, rest_first}
 use Rattle.lifting.specs.Ast.{const}
@@ -14,37 +13,34 @@ use Rattle.emit_value_ids.specs.Later.{known_stands}
 use Rattle.emit_values.specs.Given.{all_given, given_no, given_yes, is_given, value_named}
 use Rattle.emit_values.proofs.all_given.Goals as goal
 
-pub count-requires : goal.count-requires
-count-requires c = (c.requires.stands.tables.size, lit< tt)
-
 pub loop-i-init : goal.loop-i-init
 loop-i-init c = rest_first _ _ 0 (omega arith)
 
-pub value-v-requires : goal.value-v-requires
-value-v-requires c = value_within c.requires.stands.tables _ (omega (arith, c.wide-n.ensures, c.count.ensures, value_count c.requires.stands.tables))
+pub value-requires : goal.value-requires
+value-requires c = value_within c.requires.stands.tables _ (omega (arith, c.count-i-end.ensures, value_count c.requires.stands.tables))
 
 pub value_id-requires : goal.value_id-requires
 value_id-requires c =
     let F = func_of c.args.func.now in
-    let i : c.loop-i.i < length (values F) = omega (arith, c.wide-n.ensures, c.count.ensures, value_count c.requires.stands.tables) in
-    let e = c.value-v.ensures ∙ value_at c.requires.stands.tables _ i (const 0) in
+    let i : c.loop-i.i < length (values F) = omega (arith, c.count-i-end.ensures, value_count c.requires.stands.tables) in
+    let e = c.value.ensures ∙ value_at c.requires.stands.tables _ i (const 0) in
     record { known_value = known_stands c.requires.stands c.requires.regions_nonzero _ (ap (named F) e ∙ value_named F c.requires.stands.passes _ i); ids = c.requires.ids; ids_end_in_bounds = c.requires.ids_end_in_bounds }
 
 pub returns-then-value_id-eq0 : goal.returns-then-value_id-eq0
 unfolding all_given
 returns-then-value_id-eq0 c =
     let F = func_of c.args.func.now in
-    let i : c.loop-i.i < length (values F) = omega (arith, c.wide-n.ensures, c.count.ensures, value_count c.requires.stands.tables) in
-    let e = c.value-v.ensures ∙ value_at c.requires.stands.tables _ i (const 0) in
+    let i : c.loop-i.i < length (values F) = omega (arith, c.count-i-end.ensures, value_count c.requires.stands.tables) in
+    let e = c.value.ensures ∙ value_at c.requires.stands.tables _ i (const 0) in
     sym (every_stop (is_given F c.args.first) c.loop-i.invariant i (const 0) (given_no F c.args.first e c.value_id.ensures c.if-value_id-eq0.true))
 
 pub loop-i-preserved : goal.loop-i-preserved
 loop-i-preserved c =
     let F = func_of c.args.func.now in
-    let i : c.loop-i.i < length (values F) = omega (arith, c.wide-n.ensures, c.count.ensures, value_count c.requires.stands.tables) in
-    let e = c.value-v.ensures ∙ value_at c.requires.stands.tables _ i (const 0) in
+    let i : c.loop-i.i < length (values F) = omega (arith, c.count-i-end.ensures, value_count c.requires.stands.tables) in
+    let e = c.value.ensures ∙ value_at c.requires.stands.tables _ i (const 0) in
     every_next (is_given F c.args.first) c.loop-i.invariant i (const 0) (given_yes F c.args.first e c.value_id.ensures c.if-value_id-eq0.false)
 
 pub returns : goal.returns
 unfolding all_given
-returns c = sym (rest_end c.loop-i.invariant (omega (arith, c.wide-n.ensures, c.count.ensures, value_count c.requires.stands.tables)))
+returns c = sym (rest_end c.loop-i.invariant (omega (arith, c.count-i-end.ensures, value_count c.requires.stands.tables)))

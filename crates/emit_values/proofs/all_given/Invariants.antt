@@ -1,5 +1,4 @@
 -- The loop's invariant: all values have ids if those from the i-th on do. The measure is how many are left.
-use Prim.Native.Nat.{◌-◌}
 use Rattle.general_laws.specs.Lists.{every}
 use Rattle.general_laws.specs.Every.{Rest}
 use Rattle.lifting.specs.Parts.{values}
@@ -9,6 +8,3 @@ use Rattle.emit_values.proofs.all_given.Given as goal
 
 abbrev pub invariant-loop-i : goal.invariant-loop-i
 invariant-loop-i l = Rest (every (is_given (func_of l.func) l.first)) (values (func_of l.func)) 0 l.i
-
-abbrev pub decreases-loop-i : goal.decreases-loop-i
-decreases-loop-i l = l.n - l.i

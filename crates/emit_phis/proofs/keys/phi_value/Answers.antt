@@ -13,47 +13,47 @@ use Rattle.emit_phis.proofs.keys.phi_value.Goals as goal
 
 pub overflow_cast-result : goal.overflow_cast-result
 overflow_cast-result c =
-    let x = entry_region_in c.requires.visited c.args.i c.requires.i_lt_m c.args.j c.requires.j_in_bounds (ap as_point (sym c.in-RegionEntry.is) ∙ c.point-p.ensures) in
+    let x = entry_region_in c.requires.visited c.args.i c.requires.i_lt_m c.args.j c.requires.j_in_bounds (ap as_point (sym c.in-RegionEntry.is) ∙ c.point.ensures) in
     omega (arith, x.0, c.requires.visited.walkable.named.few)
 
 pub overflow_cast-result-in-RegionEntry : goal.overflow_cast-result-in-RegionEntry
 overflow_cast-result-in-RegionEntry c =
-    let x = entry_region_in c.requires.visited c.args.i c.requires.i_lt_m c.args.j c.requires.j_in_bounds (ap as_point (sym c.in-RegionEntry.is) ∙ c.point-p.ensures) in
+    let x = entry_region_in c.requires.visited c.args.i c.requires.i_lt_m c.args.j c.requires.j_in_bounds (ap as_point (sym c.in-RegionEntry.is) ∙ c.point.ensures) in
     omega (arith, item_low (region_ins c.requires.visited.tables _ x.0) c.args.j x.1)
 
 pub node_child-requires : goal.node_child-requires
-node_child-requires c = record { tables = c.requires.visited.tables; n_in_bounds = (body_in c.requires.visited c.args.i c.requires.i_lt_m c.args.j c.requires.j_in_bounds (ap as_point (sym c.in-NodeEntry.is) ∙ c.point-p.ensures)).0; i_in_bounds = (body_in c.requires.visited c.args.i c.requires.i_lt_m c.args.j c.requires.j_in_bounds (ap as_point (sym c.in-NodeEntry.is) ∙ c.point-p.ensures)).1 }
+node_child-requires c = record { tables = c.requires.visited.tables; n_in_bounds = (body_in c.requires.visited c.args.i c.requires.i_lt_m c.args.j c.requires.j_in_bounds (ap as_point (sym c.in-NodeEntry.is) ∙ c.point.ensures)).0; i_in_bounds = (body_in c.requires.visited c.args.i c.requires.i_lt_m c.args.j c.requires.j_in_bounds (ap as_point (sym c.in-NodeEntry.is) ∙ c.point.ensures)).1 }
 
 pub overflow_cast-result-in-NodeEntry : goal.overflow_cast-result-in-NodeEntry
 overflow_cast-result-in-NodeEntry c =
-    let x = input_in c.requires.visited c.args.i c.requires.i_lt_m c.args.j c.requires.j_in_bounds (ap as_point (sym c.in-NodeEntry.is) ∙ c.point-p.ensures) c.node_child.ensures in
+    let x = input_in c.requires.visited c.args.i c.requires.i_lt_m c.args.j c.requires.j_in_bounds (ap as_point (sym c.in-NodeEntry.is) ∙ c.point.ensures) c.node_child.ensures in
     omega (arith, x.0, c.requires.visited.walkable.named.few)
 
 pub overflow_cast-result-in-NodeEntry-2 : goal.overflow_cast-result-in-NodeEntry-2
 overflow_cast-result-in-NodeEntry-2 c =
-    let x = input_in c.requires.visited c.args.i c.requires.i_lt_m c.args.j c.requires.j_in_bounds (ap as_point (sym c.in-NodeEntry.is) ∙ c.point-p.ensures) c.node_child.ensures in
+    let x = input_in c.requires.visited c.args.i c.requires.i_lt_m c.args.j c.requires.j_in_bounds (ap as_point (sym c.in-NodeEntry.is) ∙ c.point.ensures) c.node_child.ensures in
     omega (arith, item_low (region_ins c.requires.visited.tables _ x.0) c.args.j x.1)
 
 pub overflow_cast-result-in-NodeExit : goal.overflow_cast-result-in-NodeExit
 overflow_cast-result-in-NodeExit c =
-    let x = output_in c.requires.visited c.args.i c.requires.i_lt_m c.args.j c.requires.j_in_bounds (ap as_point (sym c.in-NodeExit.is) ∙ c.point-p.ensures) in
+    let x = output_in c.requires.visited c.args.i c.requires.i_lt_m c.args.j c.requires.j_in_bounds (ap as_point (sym c.in-NodeExit.is) ∙ c.point.ensures) in
     omega (arith, x.0, few_nodes c.requires.visited.tables)
 
 pub overflow_cast-result-in-NodeExit-2 : goal.overflow_cast-result-in-NodeExit-2
 overflow_cast-result-in-NodeExit-2 c =
-    let x = output_in c.requires.visited c.args.i c.requires.i_lt_m c.args.j c.requires.j_in_bounds (ap as_point (sym c.in-NodeExit.is) ∙ c.point-p.ensures) in
+    let x = output_in c.requires.visited c.args.i c.requires.i_lt_m c.args.j c.requires.j_in_bounds (ap as_point (sym c.in-NodeExit.is) ∙ c.point.ensures) in
     omega (arith, item_low (node_outs c.requires.visited.tables _ x.0) c.args.j x.1)
 
 pub returns-in-RegionEntry : goal.returns-in-RegionEntry
-returns-in-RegionEntry c = key_here c.requires.visited c.args.i c.requires.i_lt_m c.args.j c.requires.j_in_bounds (ap as_point (sym c.in-RegionEntry.is) ∙ c.point-p.ensures)
+returns-in-RegionEntry c = key_here c.requires.visited c.args.i c.requires.i_lt_m c.args.j c.requires.j_in_bounds (ap as_point (sym c.in-RegionEntry.is) ∙ c.point.ensures)
 
 pub returns-in-RegionExit : goal.returns-in-RegionExit
-returns-in-RegionExit c = key_here c.requires.visited c.args.i c.requires.i_lt_m c.args.j c.requires.j_in_bounds (ap as_point (sym c.in-RegionExit.is) ∙ c.point-p.ensures)
+returns-in-RegionExit c = key_here c.requires.visited c.args.i c.requires.i_lt_m c.args.j c.requires.j_in_bounds (ap as_point (sym c.in-RegionExit.is) ∙ c.point.ensures)
 
 pub returns-in-NodeEntry : goal.returns-in-NodeEntry
 returns-in-NodeEntry c =
     ap (λ (b : ℕ). region_input b c.args.j) c.node_child.ensures
-    ∙ key_here c.requires.visited c.args.i c.requires.i_lt_m c.args.j c.requires.j_in_bounds (ap as_point (sym c.in-NodeEntry.is) ∙ c.point-p.ensures)
+    ∙ key_here c.requires.visited c.args.i c.requires.i_lt_m c.args.j c.requires.j_in_bounds (ap as_point (sym c.in-NodeEntry.is) ∙ c.point.ensures)
 
 pub returns-in-NodeExit : goal.returns-in-NodeExit
-returns-in-NodeExit c = key_here c.requires.visited c.args.i c.requires.i_lt_m c.args.j c.requires.j_in_bounds (ap as_point (sym c.in-NodeExit.is) ∙ c.point-p.ensures)
+returns-in-NodeExit c = key_here c.requires.visited c.args.i c.requires.i_lt_m c.args.j c.requires.j_in_bounds (ap as_point (sym c.in-NodeExit.is) ∙ c.point.ensures)

@@ -7,7 +7,8 @@ use native.Mathlib.Omega.{arith}
 use Rattle.func.specs.Decode.{func_of}
 use Rattle.lifting_runs.specs.Refers.{Named}
 use Rattle.emit_names.specs.Ids.{id_in}
-use Rattle.emit_words.specs.Put.{id, put_more, put_same}
+use Rattle.emit_words.specs.Put.Item.{id}
+use Rattle.emit_words.specs.Writes.{writes_more, writes_same}
 use Rattle.emit_insts.specs.Ready.{ready_visited}
 use Rattle.emit_phis.specs.Along.{origin_kept}
 use Rattle.emit_phis.proofs.Steps.{from_low, value_low, value_names}
@@ -24,5 +25,5 @@ block_label-requires c = record { emit_ready = c.requires.emit_ready; p_lt_m = f
 
 pub returns : goal.returns
 returns c =
-    put_same (put_more c.put_id-a.ensures c.put_id.ensures)
+    writes_same (writes_more c.put_id.ensures c.put_id-2.ensures)
     (ap₂ (λ (x y : ℕ). id x ∷ id y ∷ []) (c.id_of.ensures ∙ ap (id_in (func_of c.args.func.now) c.args.first) c.edge_value-value.ensures) c.block_label.ensures)

@@ -1,49 +1,39 @@
 -- The loop's invariant: the pairs of the edges passed are appended, and the rest of the chain is left. The measure is the number of the next
 -- edge, which falls along a chain.
-use mathlib.Core.Path.{sym, ap, subst}
-use Prim.Native.Nat.{ℕ}
-use native.Mathlib.Omega.{arith}
-use borrow.Author.Rules.{rules}
-use Rattle.func.specs.Decode.{func_of}
-use Rattle.general_laws.specs.Members.{In}
-use Rattle.terminators.specs.At.{point_at}
-use Rattle.emit_words.specs.Put.{put_length, put_same}
-use Rattle.emit_edge_ends.specs.Ends.{edges_into}
-use Rattle.emit_edge_ends.specs.Links.{rest_edge}
-use Rattle.emit_phis.specs.Items.{pair_in}
-use Rattle.emit_phis.proofs.Steps.{pairing_done, pairing_first, pairing_next, pairs_put, same_edge}
+use Rattle.std.proofs.Common.{ap, arith}
+use Rattle.emit_words.specs.Writes.{writes_same}
+use Rattle.emit_chains.specs.Edge.{edge_word}
+use Rattle.emit_phis.proofs.Steps.{pairing_done, pairing_edge, pairing_first, pairing_next, pairs_put}
 use Rattle.emit_phis.proofs.pairs.put_pairs.Goals as goal
 
-pub loop-e-init : goal.loop-e-init
-loop-e-init c = pairing_first (omega arith) (omega arith) c.requires.first_into
-
-pub next_edge-after-requires : goal.next_edge-after-requires
-next_edge-after-requires c = record { chained = c.requires.linked.chained; h_nonzero = (omega arith, omega (arith, c.loop-e.invariant.rest.low)) }
+pub loop-edge-init : goal.loop-edge-init
+loop-edge-init c = pairing_first (omega arith) c.requires.first_into
 
 pub edge_position-requires : goal.edge_position-requires
-edge_position-requires c = record { chained = c.requires.linked.chained; h_nonzero = (omega arith, omega (arith, c.loop-e.invariant.rest.low)) }
+edge_position-requires c = record { chained = c.requires.linked.chained; e_bound = omega (arith, c.loop-edge.invariant.rest.low, ap edge_word c.in-Some.is) }
 
 pub edge_entry-requires : goal.edge_entry-requires
-edge_entry-requires c = record { chained = c.requires.linked.chained; h_nonzero = (omega arith, omega (arith, c.loop-e.invariant.rest.low)) }
+edge_entry-requires c = record { chained = c.requires.linked.chained; e_bound = omega (arith, c.loop-edge.invariant.rest.low, ap edge_word c.in-Some.is) }
 
-pub put_pair-d-requires : goal.put_pair-d-requires
-put_pair-d-requires c =
-    let F = func_of c.args.func.now in
-    record { emit_ready = c.requires.emit_ready; i_lt_m = c.requires.i_lt_m; fact = subst (λ (o : ℕ × ℕ). In o (edges_into F (point_at F c.args.i) 0)) (sym (same_edge c.edge_position.ensures c.edge_entry.ensures)) (rest_edge c.requires.linked.chained c.loop-e.invariant.rest (omega arith)) }
+pub put_pair-requires : goal.put_pair-requires
+put_pair-requires c =
+    record {
+      emit_ready = c.requires.emit_ready;
+      i_lt_m = c.requires.i_lt_m;
+      fact = pairing_edge c.loop-edge.invariant c.requires.linked.chained _ (ap edge_word c.in-Some.is) c.edge_position.ensures c.edge_entry.ensures;
+    }
 
-pub loop-e-smaller : goal.loop-e-smaller
-loop-e-smaller c = omega (arith, c.next_edge-after.ensures.upper_bound)
+pub next_edge-edge-requires : goal.next_edge-edge-requires
+next_edge-edge-requires c = record { chained = c.requires.linked.chained; e_bound = omega (arith, c.loop-edge.invariant.rest.low, ap edge_word c.in-Some.is) }
 
-pub loop-e-preserved : goal.loop-e-preserved
-loop-e-preserved c =
-    let F = func_of c.args.func.now in
-    pairing_next c.loop-e.invariant c.requires.linked.chained (omega arith)
-    (put_same c.put_pair-d.ensures (ap (pair_in F c.args.first c.args.i c.args.j) (same_edge c.edge_position.ensures c.edge_entry.ensures)))
-    c.next_edge-after.ensures.value
+pub loop-edge-smaller : goal.loop-edge-smaller
+loop-edge-smaller c = omega (arith, c.next_edge-edge.ensures.upper_bound, ap edge_word c.in-Some.is)
 
-pub shape_of-out : goal.shape_of-out
-shape_of-out c =
-    let l = put_length c.loop-e.invariant.put in search rules
+pub loop-edge-preserved : goal.loop-edge-preserved
+loop-edge-preserved c =
+    pairing_next c.loop-edge.invariant c.requires.linked.chained _ (ap edge_word c.in-Some.is) c.edge_position.ensures c.edge_entry.ensures c.put_pair.ensures c.next_edge-edge.ensures.value
 
 pub returns : goal.returns
-returns c = put_same (pairing_done c.loop-e.invariant c.requires.linked.chained (omega arith)) (pairs_put c.requires.emit_ready c.args.i c.args.j c.requires.i_lt_m.0 c.requires.i_lt_m.1)
+returns c =
+    writes_same (pairing_done c.loop-edge.invariant c.requires.linked.chained (ap edge_word c.in_default.is))
+    (pairs_put c.requires.emit_ready c.args.i c.args.j c.requires.i_lt_m.0 c.requires.i_lt_m.1)
