@@ -144,6 +144,15 @@ module _ {A : Type 0} (s : String) (C : Codec A) {c : Cursor} where
     unfolding sub
     sub_reached q = before_reached (bytes " (" ++ bytes s) refl C p q
 
+module _ {A : Type 0} (s : String) (C : Codec A) {c : Cursor} where
+  pub sub_misses_behind : Missed (behind_literal (bytes " (" ++ bytes s) C.read) c → Missed (sub s C).read c
+  unfolding sub
+  sub_misses_behind p = before_misses (bytes " (" ++ bytes s) refl C p
+
+  pub sub_behind : {d : Cursor} {a : A} → Reached (behind_literal (bytes " (" ++ bytes s) C.read) c a d → Reached (sub s C).read c a d
+  unfolding sub
+  sub_behind p = before_behind (bytes " (" ++ bytes s) refl C p
+
 -- before a literal
 module _ {A : Type 0} (C : Codec A) (s : List ℕ) (h : Led s) {c : Cursor} where
   pub after_missed : Missed C.read c → Missed (after_word C s h).read c
@@ -207,6 +216,6 @@ module _ (b : ℕ) (h : digit b ≡ false) {c : Cursor} where
     num_reached q = behind_reached (b ∷ []) number p q
 
 pub ruleset chains =
-    (seq_misses, seq_open, seq_reads, same_misses, same_reads, behind_missed, behind_open, behind_reached, before_missed, before_open, before_reached, before_misses, before_behind, spaced_missed, spaced_open, spaced_reached, sub_missed, sub_open, sub_reached, after_missed, after_open, after_reached, closed_missed, closed_unclosed, closed_reached, num_missed, num_open, num_reached)
+    (seq_misses, seq_open, seq_reads, same_misses, same_reads, behind_missed, behind_open, behind_reached, before_missed, before_open, before_reached, before_misses, before_behind, spaced_missed, spaced_open, spaced_reached, sub_missed, sub_open, sub_reached, sub_misses_behind, sub_behind, after_missed, after_open, after_reached, closed_missed, closed_unclosed, closed_reached, num_missed, num_open, num_reached)
 
 pub ruleset choices = (alt_left, alt_right, alt_misses, same_misses, same_reads, lit_reads, lit_misses, before_misses, before_behind)
