@@ -1,14 +1,16 @@
 -- What the proofs of the functions over these definitions cite, over plain variables. Assumes nothing.
 --     less                          less of the text is left
 --     last-.., ended-..             with what ends a line
-use Rattle.std.specs.Prelude.{◌≡◌, List, ℕ, ◌-◌, ◌<◌, length, drop}
+use Rattle.std.specs.Prelude.{◌≡◌, List, ◌++◌, ℕ, ◌-◌, ◌<◌, length, drop}
 use Rattle.std.specs.Prelude as code
 use Rattle.std.proofs.Math.Path.{refl}
 use Rattle.std.proofs.Common.{ap, sym, subst, arith}
 use Rattle.lifting.specs.Bytes.{bytes}
 use Rattle.lifting.specs.Digits.{Reading}
+use Prim.Native.String.{String}
 use Rattle.lifting.specs.Codec.{Codec}
-use Rattle.read_cursor.specs.Read.{Onward, literal}
+use Rattle.lifting.specs.Grammar.{sub}
+use Rattle.read_cursor.specs.Read.{Onward, literal, behind_literal}
 use Rattle.read_cursor.specs.Answers.{Reached, Missed, StepsOn}
 use Rattle.read_cursor.specs.Chains.{after_missed, after_open, after_reached, seq_misses, seq_open, sub_misses_behind, sub_behind}
 use Rattle.read_cursor.specs.declared.Cursor.{Cursor}
@@ -53,6 +55,10 @@ module _ {A S : Type 0} (C : Codec A) {f : A → S → S} {c d e : Cursor} {w v 
   pub stored_ended : Reached (literal (bytes "\n")) d tt e → Stored (ended_by C).read f c e w v
   unfolding ended_by
   stored_ended q = stored_after C (bytes "\n") refl p q
+
+pub stores_sub : {A S : Type 0} (s : String) (C : Codec A) (f : A → S → S) (c : Cursor) (found : code.Option Cursor) (w v : S) → Stores (behind_literal (bytes " (" ++ bytes s) C.read) f c found w v → Stores (sub s C).read f c found w v
+stores_sub s C f c code.None w v p = sub_misses_behind s C p
+stores_sub s C f c (code.Some d) w v p = stored_sub s C p
 
 pub stores_last : {A S : Type 0} (C : Codec A) {f : A → S → S} {c d : Cursor} (found : code.Option Cursor) {w v : S} → Stored C.read f c d w v → StepsOn (literal (bytes ")\n")) d found → Stores (last_form C).read f c found w v
 stores_last C code.None p q = last_open C p.reached q
