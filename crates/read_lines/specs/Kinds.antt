@@ -21,6 +21,7 @@ use Rattle.read_cursor.specs.Chains.{took_next}
 use Rattle.read_lines.specs.declared.NoLine.{NoLine}
 use Rattle.read_lines.specs.declared.NoLine.TheVariants.{Other, Refused}
 use Rattle.std.specs.Prelude as code
+use Rattle.std.specs.Option.{ok_or}
 use Rattle.read_cursor.specs.declared.Cursor.{Cursor}
 use Rattle.read_insts.specs.declared.Op.{Op}
 use Rattle.func.specs.Keep.{keep_const, keep_param, keep_region, keep_node, keep_op}
@@ -137,11 +138,6 @@ kind_is kinds.Region = region_kind
 kind_is kinds.Node = node_kind_law
 kind_is kinds.Op = op_kind_law
 
--- a line's answer, once its head was read
-abbrev pub or_refused : code.Option Cursor → code.Result Cursor NoLine
-or_refused (code.Some d) = code.Ok d
-or_refused code.None = code.Err Refused
-
 -- a line of the kind was read, or one was begun and is wrong; or the next line is of another kind, and nothing was stored
 pub record Begun (k : LineKind) (from d : Cursor) (w v : List ℕ) : Type 0 where
   pub head : HeadOf k
@@ -170,10 +166,10 @@ module _ {k : LineKind} (j : LineKind) (e : k ≡ j) {from : Cursor} where
   other_line {w} {v} p q = subst⁻¹ (λ (z : LineKind). Another z from w v) e (record { head = p; words = q })
 
   pub this_line : {x : HeadOf j} {mid : Cursor} (found : code.Option Cursor) {r : code.Result Cursor NoLine} (w v : List ℕ) → Reached (head_of j) from x mid
-      → Stores (tail_of j x) (keep_kind j) mid found w v → r ≡ or_refused found → LineIs k from r w v
-  this_line {x} {mid} found {r} w v p q i = subst⁻¹ (λ (z : code.Result Cursor NoLine). LineIs k from z w v) i (subst⁻¹ (λ (z : LineKind). LineIs z from (or_refused found) w v) e (go found q))
+      → Stores (tail_of j x) (keep_kind j) mid found w v → r ≡ ok_or found Refused → LineIs k from r w v
+  this_line {x} {mid} found {r} w v p q i = subst⁻¹ (λ (z : code.Result Cursor NoLine). LineIs k from z w v) i (subst⁻¹ (λ (z : LineKind). LineIs z from (ok_or found Refused) w v) e (go found q))
     where
-      go : (found : code.Option Cursor) → Stores (tail_of j x) (keep_kind j) mid found w v → LineIs j from (or_refused found) w v
+      go : (found : code.Option Cursor) → Stores (tail_of j x) (keep_kind j) mid found w v → LineIs j from (ok_or found Refused) w v
       go code.None q = record { head = x; mid = mid; took = p; line = q }
       go (code.Some d) q = record { head = x; mid = mid; took = p; line = q }
 
