@@ -88,7 +88,7 @@ module _ {c d : Cursor} {w u v : List ℕ} {m : Marks} (e : m ≡ marks_of w) wh
   op_stored a t k s q = op_row_law a t k s (q ∙ ap (λ (m : Marks). op_row m a t k u) e)
 
 -- lists that are read as a part of what a line is read as, and kept alike
-up_lists : {A B : Type 0} (read : List ℕ → Reading A) (f : A → B) (k : A → List ℕ → List ℕ) (l : B → List ℕ → List ℕ) (c : Cursor) (found : code.Option Cursor) (w v : List ℕ)
+pub up_lists : {A B : Type 0} (read : List ℕ → Reading A) (f : A → B) (k : A → List ℕ → List ℕ) (l : B → List ℕ → List ℕ) (c : Cursor) (found : code.Option Cursor) (w v : List ℕ)
     → ((a : A) → l (f a) w ≡ k a w) → Stores read k c found w v → Stores (λ t. then (read t) (up f)) l c found w v
 up_lists read f k l c code.None w v e s = up_missed read f s
 up_lists read f k l c (code.Some d) w v e s = record { value = f s.value; reached = up_reached read f s.reached; kept = s.kept ∙ sym (e s.value) }
