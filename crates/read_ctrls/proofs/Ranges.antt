@@ -38,7 +38,7 @@ use Rattle.read_lines.specs.Rows.{as_told, up_lists}
 use Rattle.read_ctrls.specs.declared.CtrlHead.{CtrlHead}
 use Rattle.check_ctrls.specs.declared.Judged.{Judged}
 use Rattle.check_edges.specs.Edges.{Edges, keep_edge, targets_fit}
-use Rattle.read_ctrls.specs.Judge.{State, judged_edges, keep_judged}
+use Rattle.read_ctrls.specs.Judge.{judged_edges, keep_judged}
 use Rattle.read_ctrls.specs.Tails.{ctrl_lists, edges_form, ctrl_rest, to_ctrl, ctrl_tail}
 use Rattle.read_ctrls.specs.Answers.{edges_state, state_at, kind_of, keep_forms, keep_inst_forms, keep_lists}
 use Rattle.check_ctrls.specs.Judged.{judged_with, opcode_in}

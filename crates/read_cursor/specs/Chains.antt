@@ -3,13 +3,13 @@
 --     seq-.., alt-.., same-..                    the formats one after the other, one or the other, and of another type
 --     behind-.., before-.., spaced-.., sub-..      what stands behind a literal
 --     closed-.., num-..                           what a closing bracket ends; a number behind a byte
-use Rattle.std.specs.Prelude.{◌≡◌, ◌⊎◌, Bool, false, ℕ, ◌++◌, List, [], ◌∷◌, Option, None, Some}
+use Rattle.std.specs.Prelude.{◌≡◌, Bool, false, ℕ, ◌++◌, List, [], ◌∷◌, Option, None}
 use Rattle.std.proofs.Common.{sym, subst, ap, ◌∙◌, inl, inr, refl}
 use Rattle.std.proofs.Math.Option.{none}
 use Prim.Native.String.{String}
 use Rattle.lifting.specs.Bytes.{bytes}
 use Rattle.lifting.specs.Digits.{digit, number, Reading}
-use Rattle.lifting.specs.Codec.{Codec, Led, then, strip, lit, num, seq, view_as, same, alt}
+use Rattle.lifting.specs.Codec.{Codec, Led, lit, num, seq, view_as, same, alt}
 use Rattle.lifting.specs.Grammar.{before, after_word, spaced, sub, closed, field}
 use Rattle.read_cursor.specs.declared.Cursor.{Cursor}
 use Rattle.read_cursor.specs.Read.{Took, Denied, literal, behind_literal, TextEnded}

@@ -1,16 +1,16 @@
 -- What one step of the code is in the definitions, over plain variables. Assumes nothing.
---     by_answer, onward_both             how a caller goes by an answer, and from one step to the next
+--     onward_both                   from one step to the next
 --     behind-.., before-.., sub-..  what stands behind a literal
 --     head-..                       a word, two numbers and a head
 --     closed-..                     what a closing bracket ends
---     byte-.., along-..             a byte; a word, of which the loop has compared some bytes
-use Rattle.std.specs.Prelude.{◌≡◌, Bool, true, false, ℕ, ◌+◌, ◌-◌, ◌≤◌, ◌<◌, ◌&&◌, eqb, leb, length, get_or, drop, take}
+--     byte-.., word-..              a byte; a word, by the test of its bytes
+use Rattle.std.specs.Prelude.{◌≡◌, Bool, true, false, ℕ, ◌+◌, ◌≤◌, ◌<◌, ◌&&◌, eqb, leb, length, get_or, drop, take}
 use Rattle.std.specs.List.{slice_range, starts_with}
 use Rattle.std.specs.Cmp.Lexicographic.{pointwise}
 use Rattle.std.proofs.lemmas.List.{drop-drop}
 use Rattle.std.proofs.lemmas.List.Folds.{drop_split}
 use Rattle.std.proofs.Math.Path.{refl, ap}
-use Rattle.std.proofs.Common.{sym, subst, ◌∙◌, le_refl, append-nil, not-suc-le-zero, le_of_suc-le-suc, add-zero, add-one, drop_of_length-le, length-drop, drop-cons, eq-eqb, ne_eqb}
+use Rattle.std.proofs.Common.{sym, ◌∙◌, le_refl, append-nil, not-suc-le-zero, le_of_suc-le-suc, add-one, drop_of_length-le, length-drop, drop-cons, eq-eqb, ne_eqb}
 use mathlib.Core.List.{List, [], ◌∷◌, ◌++◌}
 use Rattle.std.proofs.Math.Option.{Option, none, some, some-injective, none-ne-some}
 use native.Mathlib.Omega.{arith}
@@ -23,11 +23,6 @@ use Rattle.lifting.specs.Grammar.{before, after_word, sub, closed, field}
 use Rattle.lifting.specs.Whole.{end}
 use Rattle.read_cursor.specs.Read.{Onward, Moves, Reads, Took, Denied, literal, behind_literal, TextEnded}
 use Rattle.read_cursor.specs.Begins.{then_nothing}
-
--- an answer that is known to be one of its cases: f gives what it says was found
-pub by_answer : {R A : Type 0} {read : List ℕ → Reading A} {text : List ℕ} {at : ℕ} (f : R → Option (A × ℕ)) {r s : R} → r ≡ s
-    → Reads read text at (f r) → Reads read text at (f s)
-by_answer {read = read} {text} {at} f e p = subst (λ r. Reads read text at (f r)) e p
 
 -- one step after another
 pub onward_both : {text : List ℕ} {at mid next : ℕ} → Onward text at mid → Onward text mid next → Onward text at next

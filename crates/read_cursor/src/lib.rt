@@ -3,7 +3,7 @@
 // specs/Answers.antt). Fields, forms, values and the heads of lines are read by crates above, each from a cursor.
 #![tactic(auto)]
 
-ghost use Rattle.std.specs.Prelude.{◌≡◌, [], ◌∷◌, ◌≤◌, length};
+ghost use Rattle.std.specs.Prelude.{[], ◌∷◌, ◌≤◌, length};
 ghost use Rattle.lifting.specs.Bytes.{bytes};
 ghost use Rattle.lifting.specs.Digits.{number};
 ghost use Rattle.read_cursor.specs.Read.{TextEnded, literal};

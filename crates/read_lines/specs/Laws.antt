@@ -1,12 +1,11 @@
 -- What the proofs of the functions over these definitions cite, over plain variables. Assumes nothing.
 --     less                          less of the text is left
 --     last-.., ended-..             with what ends a line
-use Rattle.std.specs.Prelude.{◌≡◌, List, ◌++◌, ℕ, ◌-◌, ◌<◌, length, drop}
+use Rattle.std.specs.Prelude.{List, ◌++◌, ℕ, ◌-◌, ◌<◌, length}
 use Rattle.std.specs.Prelude as code
 use Rattle.std.proofs.Math.Path.{refl}
-use Rattle.std.proofs.Common.{ap, sym, subst, arith}
+use Rattle.std.proofs.Common.{arith}
 use Rattle.lifting.specs.Bytes.{bytes}
-use Rattle.lifting.specs.Digits.{Reading}
 use Prim.Native.String.{String}
 use Rattle.lifting.specs.Codec.{Codec}
 use Rattle.lifting.specs.Grammar.{sub}

@@ -9,18 +9,18 @@ use Rattle.std.proofs.Common.{sym, ◌∙◌, subst, arith}
 use mathlib.Core.List.{List, [], ◌∷◌, ◌++◌}
 use Rattle.std.proofs.Math.Option.{Option, none, some, some-injective}
 use Rattle.std.specs.Prelude as code
-use Rattle.std.specs.Prelude.{ℕ, ◌≤◌, ◌<◌}
+use Rattle.std.specs.Prelude.{ℕ, ◌≤◌}
 use Rattle.std.proofs.Math.ListN.{drop}
 use Prim.Native.String.{String}
 use Rattle.lifting.specs.Bytes.{bytes}
 use Rattle.lifting.specs.Digits.{Reading}
-use Rattle.lifting.specs.Codec.{Codec, Led, then, both_of, second, up, strip, strip_sound, lit, seq, view_as, same}
+use Rattle.lifting.specs.Codec.{Codec, Led, then, up, strip, strip_sound, seq, same}
 use Rattle.lifting.specs.Grammar.{before, after_word, sub, closed}
-use Rattle.read_cursor.specs.Read.{Took, Denied, literal, behind_literal}
+use Rattle.read_cursor.specs.Read.{literal, behind_literal}
 use Rattle.read_cursor.specs.Begins.{go_on}
 use Rattle.read_cursor.specs.Answers.{Reached, Missed}
 use Rattle.read_cursor.specs.Laws.{onward_both}
-use Rattle.read_cursor.specs.Chains.{took_next, denied_next, seq_open, seq_reads, same_reads, behind_reached, before_reached, sub_reached, sub_behind, after_reached, closed_reached}
+use Rattle.read_cursor.specs.Chains.{took_next, denied_next, seq_open, seq_reads, behind_reached, before_reached, sub_behind, after_reached, closed_reached}
 use Rattle.read_cursor.specs.declared.Cursor.{Cursor}
 use Rattle.func.specs.Store.{folds}
 
@@ -69,9 +69,6 @@ module _ {A B : Type 0} (read : List ℕ → Reading A) (f : A → B) where
   pub up_reached : {c d : Cursor} {a : A} → Reached read c a d → Reached (λ t. then (read t) (up f)) c (f a) d
   up_reached p = record { took = record { is = rw p.took.is; moves = p.took.moves }; same_text = p.same_text }
 
-  pub stored_up : {S : Type 0} {k : B → S → S} {c d : Cursor} {w v : S} → Stored read (λ a. k (f a)) c d w v → Stored (λ t. then (read t) (up f)) k c d w v
-  stored_up p = record { value = f p.value; reached = up_reached p.reached; kept = p.kept }
-
 -- and what it was before
 pub up_back : {A B : Type 0} (read : List ℕ → Reading A) (f : A → B) {c d : Cursor} {b : B} → Reached (λ t. then (read t) (up f)) c b d → (a : A) × (b ≡ f a) × Reached read c a d
 up_back {A} {B} read f {c} {d} {b} p = go (read (drop c.at c.text.now)) refl p.took.is
@@ -117,13 +114,10 @@ module _ {A B : Type 0} (D : Codec B) (read : List ℕ → Reading (B → A)) wh
     pub waits_reached : {b : B} {e : Cursor} → Reached D.read d b e → Reached (λ t. waits D (read t)) c (g b) e
     waits_reached q = head_reached read (λ g r. then (D.read r) (up g)) p (up_reached D.read g q)
 
--- one after the other: the first is stored too, or it is only read, and what the second stores may depend on it
+-- one after the other, both stored
 module _ {A B S : Type 0} (C : Codec A) (D : Codec B) where
   pub stored_both : {f : A → S → S} (g : B → S → S) {c d e : Cursor} {w u v : S} → Stored C.read f c d w u → Stored D.read g d e u v → Stored (seq C D).read (λ x z. g x.1 (f x.0 z)) c e w v
   stored_both g p q = record { value = (p.value, q.value); reached = seq_reads C D p.reached q.reached; kept = q.kept ∙ ap (g q.value) p.kept }
-
-  pub stored_second : (g : A → B → S → S) {a : A} {c d e : Cursor} {w v : S} → Reached C.read c a d → Stored D.read (g a) d e w v → Stored (seq C D).read (λ x. g x.0 x.1) c e w v
-  stored_second g {a} p q = record { value = (a, q.value); reached = seq_reads C D p q.reached; kept = q.kept }
 
   pub stores_both : {f : A → S → S} (g : B → S → S) {c d : Cursor} (found : code.Option Cursor) {w u : S} (v : S) → Stored C.read f c d w u → Stores D.read g d found u v → Stores (seq C D).read (λ x z. g x.1 (f x.0 z)) c found w v
   stores_both g code.None v p q = seq_open C D p.reached q

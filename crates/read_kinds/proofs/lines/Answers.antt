@@ -1,5 +1,4 @@
 -- The loop stands before a line, and what is still to be stored from there is what was to be stored from the start.
-use Rattle.read_lines.specs.Lines.{on_first}
 use Rattle.read_lines.specs.Kinds.{kind_lines_more, lines_over, lines_wrong}
 use borrow.Author.Rules.{rules}
 use Rattle.read_kinds.proofs.lines.Goals as goal

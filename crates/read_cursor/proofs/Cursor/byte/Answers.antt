@@ -1,7 +1,6 @@
 -- Past the end there is no byte (`byte_past`), and within the text it is the one that was asked for (`byte_hit`) or another (`byte_miss`).
 use mathlib.Core.Path.{refl}
 use native.Mathlib.Omega.{arith}
-use borrow.Author.Rules.{rules}
 use Rattle.read_cursor.specs.Laws.{byte_past, byte_hit, byte_miss}
 use Rattle.read_cursor.specs.Chains.{no_step}
 use Rattle.read_cursor.proofs.Cursor.byte.Goals as goal

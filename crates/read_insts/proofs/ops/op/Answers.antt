@@ -1,7 +1,5 @@
 -- The word, two numbers and the head of X are read one behind the other, as `op_head` lines them up; where one is missed the whole is.
-use mathlib.Core.Path.{refl}
-use Rattle.lifting.specs.Bytes.{bytes}
-use Rattle.read_insts.specs.Heads.{op_head, op_head_form, op_kind_head, to_op}
+use Rattle.read_insts.specs.Heads.{op_head, op_head_form}
 use Rattle.read_cursor.specs.Chains.{no_value, headed_missed, headed_open, headed_reached}
 use Rattle.read_insts.proofs.ops.op.Goals as goal
 
