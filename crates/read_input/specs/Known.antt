@@ -13,9 +13,7 @@ use Rattle.lifting.specs.Answer.{parse}
 use Rattle.read_cursor.specs.Read.{Reads, rest_from}
 use Rattle.command.specs.declared.Command.{Command}
 use Rattle.command.specs.declared.Command.TheVariants.{Lift, Read, Blocks, Help, Unknown}
-use Rattle.read_first.specs.declared.First.{First}
-use Rattle.read_first.specs.declared.First.TheVariants.{At, Bad}
-use Rattle.read_first.specs.Opening.{first_line_form, first_answer}
+use Rattle.read_first.specs.Opening.{first_line_form}
 use Rattle.read_first.specs.Cut.{ByText, input_room, longest_line, text_room}
 use Rattle.read_first.proofs.Cut.{bad_stays, input_more, parse_cut}
 
@@ -85,17 +83,17 @@ module _ (input : List ℕ) where
     pub known_enough : input_room ≤ length input → true ≡ known_by input
     known_enough h = sym (known_is false true (le-ltb (length input) longest_line long) (le-leb input_room (length input) h))
 
-    module _ (few : length input < input_room) (r : First) (reads : Reads first_line_form.read input 0 (first_answer r)) where
-      by_line : {x : First} → r ≡ x → is_bad (rest_from input (first_answer x)) ≡ known_by input
+    module _ (few : length input < input_room) (r : Option (ℕ × ℕ)) (reads : Reads first_line_form.read input 0 r) where
+      by_line : {x : Option (ℕ × ℕ)} → r ≡ x → is_bad (rest_from input x) ≡ known_by input
       by_line e =
           sym
           (known_is false false (le-ltb (length input) longest_line long) (lt-leb input_room (length input) few)
-          ∙ ap is_bad (reads.is ∙ ap (λ (y : First). rest_from input (first_answer y)) e))
+          ∙ ap is_bad (reads.is ∙ ap (λ (y : Option (ℕ × ℕ)). rest_from input y) e))
 
-      pub known_bad : r ≡ Bad → true ≡ known_by input
+      pub known_bad : r ≡ none → true ≡ known_by input
       known_bad = by_line
 
-      pub known_good : {n k : ℕ} → r ≡ At n k → false ≡ known_by input
+      pub known_good : {n k : ℕ} → r ≡ some (n, k) → false ≡ known_by input
       known_good = by_line
 
 -- ---- what is not known yet has room for more

@@ -9,7 +9,7 @@ ghost use Rattle.read_input.specs.Counts.{IsPrefixLen};
 ghost use Rattle.read_input.specs.Known.{known_by, known_for, text_known};
 
 use command::Command;
-use read_first::{First, first_line};
+use read_first::first_line;
 use refusals::limits::MAX_BYTES;
 use std::io;
 use std::io::Read;
@@ -32,10 +32,7 @@ fn input_known(input: &[u8]) -> bool
     if INPUT <= input.len() {
         return true;
     }
-    let First::At(_, _) = first_line(input) else {
-        return true;
-    };
-    false
+    first_line(input).is_none()
 }
 
 // Whether those of a text alone decide.
