@@ -1,7 +1,7 @@
 -- Refusals 10 and 11 and the list, as the code finds them. Assumes nothing.
 --     gives_values, gives_room, gives_list    what is told and what stands in the output slice
 --     missing_any, missing_none               refusal 10 by the flag
-use mathlib.Core.Path.{◌≡◌, refl, sym, ap₂, ◌∙◌}
+use mathlib.Core.Path.{◌≡◌, refl, sym, ap, ap₂, ◌∙◌}
 use mathlib.Core.Bool.{Bool, true, false, not}
 use mathlib.Core.List.{List, ◌++◌}
 use Prim.Native.Nat.{ℕ}
@@ -24,13 +24,15 @@ use Rattle.emit_words.specs.declared.Cursor.{Cursor}
 use Rattle.emit_words.specs.Put.{Put, missed_mark}
 use Rattle.emit_words.specs.Items.{list_items}
 use Rattle.std.specs.Prelude.{Ok, Err}
+use Rattle.results.specs.declared.Unlifted.{Unlifted}
 use Rattle.results.specs.Told.{no_list}
-use Rattle.emit_output.specs.Emit.{Gives, by_list, by_room, by_values, emitted, gives, gives_same}
+use Rattle.emit_output.specs.Emit.{Gives, by_list, by_room, by_values, emitted, gives, gives_same, refuses}
 use Rattle.emit_output.specs.Listed.{all_given_law, missed_is}
 
 module _ (F : Func) (first n : ℕ) (out : List ℕ) where
-  pub gives_values : values_set F ≡ false → Gives (emitted F first n) (Err (no_list Values)) out out
-  gives_values e = gives_same {a = refused (refusal_number Values)} (record { told = refl; words = refl }) (sym (by_values F first n e))
+  pub gives_values : values_set F ≡ false → {r : Unlifted} → r ≡ no_list Values → Gives (emitted F first n) (Err r) out out
+  gives_values e is =
+      gives_same {a = refused (refusal_number Values)} (record { told = ap (λ (x : Unlifted). refuses (refusal_number x.refusal)) is; words = refl }) (sym (by_values F first n e))
 
   pub gives_room : values_set F ≡ true → leb (length (words (list_of F first))) n ≡ false → (k : ℕ) → Gives (emitted F first n) (Err (record { refusal = Output; wanted = k })) out out
   gives_room e z k = gives_same {a = refused (refusal_number Output)} (record { told = refl; words = refl }) (sym (by_room F first n e z))

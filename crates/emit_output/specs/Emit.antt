@@ -4,7 +4,7 @@
 --     Gives                         what is told and what stands in the output slice, by an answer
 --     by_ids, by_values, by_room, by_list    refusals 9 to 11 and the list
 use Rattle.std.specs.Prelude.{◌≡◌, true, false, List, ℕ, eqb, leb, length, Result, Ok, Err}
-use Rattle.std.proofs.Common.{ap, ◌∙◌}
+use Rattle.std.proofs.Common.{sym, ap, ◌∙◌}
 use Rattle.std.proofs.lemmas.Bool.{eqb-false}
 use Rattle.refusals.specs.declared.Refusal.{Refusal}
 use Rattle.refusals.specs.declared.Refusal.TheVariants.{Ids, Values, Output}
@@ -38,8 +38,8 @@ abbrev pub Wants : ℕ → Result Lifted Unlifted → Type 0
 Wants k (Ok l) = Unit {0}
 Wants k (Err e) = refusal_number e.refusal ≡ refusal_number Output → e.wanted ≡ k
 
-pub wants_not : (r : Refusal) (k : ℕ) → eqb (refusal_number r) (refusal_number Output) ≡ false → Wants k (Err (no_list r))
-wants_not r k other e = absurd (eqb-false (refusal_number r) (refusal_number Output) other e)
+pub wants_not : (r : Refusal) (k : ℕ) {e : Unlifted} → e ≡ no_list r → eqb (refusal_number r) (refusal_number Output) ≡ false → Wants k (Err e)
+wants_not r k is other z = absurd (eqb-false (refusal_number r) (refusal_number Output) other (sym (ap (λ (x : Unlifted). refusal_number x.refusal) is) ∙ z))
 
 -- what stands in the output slice and what is told, of an answer
 pub record Gives (a : Answer) (r : Result Lifted Unlifted) (out exit : List ℕ) : Type 0 where

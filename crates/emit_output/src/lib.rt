@@ -36,7 +36,14 @@ fn is_sure(func: &[u32], work: &[u32], room: usize, m: usize, first: u32) -> boo
 }
 
 // Then the list is written at once.
-fn at_once(func: &[u32], work: &[u32], out: &mut [u32], m: usize, first: u32, next: u32) -> Result<Lifted, Unlifted>
+fn at_once(
+    func: &[u32],
+    work: &[u32],
+    out: &mut [u32],
+    m: usize,
+    first: u32,
+    next: u32,
+) -> Result<Lifted, Unlifted>
     requires over { Over func.now work.now m first }
     requires first_value { ids_fit (func_of func.now) first ≡ true }
     requires next_value { next ≡ next_in (func_of func.now) first }

@@ -15,7 +15,13 @@ use work::clear_all;
 
 // The text is judged and lifted over whatever the scratch slices held. They keep what was read and laid out there, and what is answered asks that they
 // end as zeros.
-fn lift(text: &[u8], first: u32, func: &mut [u32], work: &mut [u32], out: &mut [u32]) -> Result<Lifted, Unlifted>
+fn lift(
+    text: &[u8],
+    first: u32,
+    func: &mut [u32],
+    work: &mut [u32],
+    out: &mut [u32],
+) -> Result<Lifted, Unlifted>
     requires { (func_words ≤ length func.old) × (work_words ≤ length work.old) }
     ensures gives { Gives (answer_to text.now first func.old work.old out.old) result out.old out.new }
     ensures ends_clear { EndsClear (answer_to text.now first func.old work.old out.old) }

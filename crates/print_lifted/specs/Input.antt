@@ -2,7 +2,8 @@
 --     bytes_cut, leaves_cut, bytes_known    how much of an input decides
 --     bad_line, good_line, bad_leaves, good_leaves, line_low    by the first line
 --     lifted_bytes_law, lifted_stands    what the entry tells and leaves in the output slice gives these bytes
-use Rattle.std.specs.Prelude.{◌≡◌, true, ℕ, ◌≤◌, drop, length, take, Result, Ok, Err}
+use Rattle.std.specs.Prelude as rust
+use Rattle.std.specs.Prelude.{◌≡◌, true, ℕ, ◌≤◌, drop, length, take, None, Some, Result, Ok, Err}
 use Rattle.std.proofs.Math.Path.{sym, ap}
 use Rattle.std.proofs.Common.{subst, ◌∙◌, arith}
 use mathlib.Core.List.{List, ◌++◌}
@@ -17,7 +18,7 @@ use Rattle.emit_output.specs.Emit.{outcome, refuses, told}
 use Rattle.lifter.specs.Demand3.{written_list, written_low}
 use Rattle.print_bytes.specs.Shown.{list_bytes, refused_bytes}
 use Rattle.read_cursor.specs.Read.{Moves, Reads, rest_from}
-use Rattle.read_first.specs.Opening.{first_line_form}
+use Rattle.read_first.specs.Opening.{first_line_form, first_answer}
 use Rattle.read_first.specs.Cut.{ByText, input_room}
 use Rattle.read_first.proofs.Cut.{answer_cut, input_cut}
 use Rattle.read_input.specs.Known.{known_decides, known_by}
@@ -98,25 +99,25 @@ module _ (text func work out exit : List ℕ) (first : ℕ) where
 
 -- ---- the first line
 
-module _ (input : List ℕ) (func work out : ℕ) (r : Option (ℕ × ℕ)) (reads : Reads first_line_form.read input 0 r) where
-  line_is : first_line_form.read input ≡ rest_from input r
+module _ (input : List ℕ) (func work out : ℕ) (r : rust.Option (ℕ × ℕ)) (reads : Reads first_line_form.read input 0 (first_answer r)) where
+  line_is : first_line_form.read input ≡ rest_from input (first_answer r)
   line_is = reads.is
 
-  pub bad_line : r ≡ none → refused_bytes (refusal_number Forms) ≡ input_bytes input func work out
+  pub bad_line : r ≡ None → refused_bytes (refusal_number Forms) ≡ input_bytes input func work out
   unfolding input_bytes
-  bad_line e = sym (ap (λ (o : Option (ℕ × List ℕ)). line_bytes o func work out) (line_is ∙ ap (λ (x : Option (ℕ × ℕ)). rest_from input x) e))
+  bad_line e = sym (ap (λ (o : Option (ℕ × List ℕ)). line_bytes o func work out) (line_is ∙ ap (λ (x : rust.Option (ℕ × ℕ)). rest_from input (first_answer x)) e))
 
-  pub good_line : {n k : ℕ} → r ≡ some (n, k) → answer_bytes (answer (drop k input) n func work out) ≡ input_bytes input func work out
+  pub good_line : {n k : ℕ} → r ≡ Some (n, k) → answer_bytes (answer (drop k input) n func work out) ≡ input_bytes input func work out
   unfolding input_bytes
-  good_line e = sym (ap (λ (o : Option (ℕ × List ℕ)). line_bytes o func work out) (line_is ∙ ap (λ (x : Option (ℕ × ℕ)). rest_from input x) e))
+  good_line e = sym (ap (λ (o : Option (ℕ × List ℕ)). line_bytes o func work out) (line_is ∙ ap (λ (x : rust.Option (ℕ × ℕ)). rest_from input (first_answer x)) e))
 
-  pub bad_leaves : (g : Answer → List ℕ → List ℕ) (w : List ℕ) → r ≡ none → w ≡ input_leaves g input func work out w
+  pub bad_leaves : (g : Answer → List ℕ → List ℕ) (w : List ℕ) → r ≡ None → w ≡ input_leaves g input func work out w
   unfolding input_leaves
-  bad_leaves g w e = sym (ap (λ (o : Option (ℕ × List ℕ)). line_leaves g o func work out w) (line_is ∙ ap (λ (x : Option (ℕ × ℕ)). rest_from input x) e))
+  bad_leaves g w e = sym (ap (λ (o : Option (ℕ × List ℕ)). line_leaves g o func work out w) (line_is ∙ ap (λ (x : rust.Option (ℕ × ℕ)). rest_from input (first_answer x)) e))
 
-  pub good_leaves : (g : Answer → List ℕ → List ℕ) (w : List ℕ) {n k : ℕ} → r ≡ some (n, k) → g (answer (drop k input) n func work out) w ≡ input_leaves g input func work out w
+  pub good_leaves : (g : Answer → List ℕ → List ℕ) (w : List ℕ) {n k : ℕ} → r ≡ Some (n, k) → g (answer (drop k input) n func work out) w ≡ input_leaves g input func work out w
   unfolding input_leaves
-  good_leaves g w e = sym (ap (λ (o : Option (ℕ × List ℕ)). line_leaves g o func work out w) (line_is ∙ ap (λ (x : Option (ℕ × ℕ)). rest_from input x) e))
+  good_leaves g w e = sym (ap (λ (o : Option (ℕ × List ℕ)). line_leaves g o func work out w) (line_is ∙ ap (λ (x : rust.Option (ℕ × ℕ)). rest_from input (first_answer x)) e))
 
-  pub line_low : {n k : ℕ} → r ≡ some (n, k) → k ≤ length input
-  line_low {n} {k} e = (subst (λ (x : Option (ℕ × ℕ)). Moves input 0 x) e reads.moves).fits
+  pub line_low : {n k : ℕ} → r ≡ Some (n, k) → k ≤ length input
+  line_low {n} {k} e = (subst (λ (x : rust.Option (ℕ × ℕ)). Moves input 0 (first_answer x)) e reads.moves).fits

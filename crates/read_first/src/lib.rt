@@ -2,14 +2,14 @@
 #![tactic(auto)]
 
 ghost use Rattle.read_cursor.specs.Read.{Reads};
-ghost use Rattle.read_first.specs.Opening.{first_line_form};
+ghost use Rattle.read_first.specs.Opening.{first_line_form, first_answer};
 
 use read_cursor::{Cursor, NumberRead, Step};
 use read_fields::one;
 
 // The line `(first N)` with which the input begins: the first id and the place where the text starts.
 pub fn first_line(input: &[u8]) -> Option<(u32, usize)>
-    ensures { Reads first_line_form.read input.now 0 result }
+    ensures { Reads first_line_form.read input.now 0 (first_answer result) }
 {
     let start = Cursor { at: 0 };
     let Step::On(a) = start.word(input, b"(first") else {

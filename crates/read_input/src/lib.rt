@@ -36,16 +36,15 @@ fn input_known(input: &[u8]) -> bool
 }
 
 // Whether those of a text alone decide.
+#[tactic(auto, unfolding(crate::specs::Known::text_known))]
 fn text_known(text: &[u8]) -> bool
     ensures { result ≡ text_known text.now }
 {
-    if text.len() < TEXT {
-        return false;
-    }
-    true
+    TEXT <= text.len()
 }
 
 // Whether the bytes so far decide what a command prints.
+#[tactic(auto, unfolding(crate::specs::Known::known_for))]
 pub fn known(command: Command, input: &[u8]) -> bool
     ensures { result ≡ known_for command input.now }
 {

@@ -44,9 +44,10 @@ pub extern "C" fn sighvona_read(text: &[u8], func: &mut [u32], work: &mut [u32])
     ensures work_slice { work.new ≡ read_leaves (read_to text.now func.old work.old) work.old }
 {
     let r = reader::parse(text, func, work);
-    if r.is_ok() {
+    let Err(_) = r else {
         clear_all(func);
-    }
+        return read_number(r);
+    };
     read_number(r)
 }
 

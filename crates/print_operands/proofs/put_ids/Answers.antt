@@ -1,6 +1,6 @@
 use Rattle.std.proofs.Common.{ap, arith}
 use Rattle.read_cursor.specs.Laws.{text_here}
-use Rattle.print_bytes.specs.Put.{part_start, part_more, part_done, put_bytes_length}
+use Rattle.print_bytes.specs.Put.{part_start, part_more, part_done}
 use Rattle.print_bytes.specs.Lines.{ids_bytes}
 use Rattle.print_bytes.specs.Taken.{drop_past}
 use Rattle.print_operands.proofs.put_ids.Goals as goal
