@@ -2,7 +2,7 @@
 --     checks_safe     the code stays within the slice
 --     checks_same     what it computes, with what the reader judged of ctrl lines, is the first refusal
 --     passes, stands_back    a text without a refusal passes each, and stands in the slice whole
-use Rattle.std.specs.Prelude.{◌≡◌, refl, Bool, true, false, ◌&&◌, List, ℕ, leb}
+use Rattle.std.specs.Prelude.{◌≡◌, refl, Bool, true, false, ◌&&◌, List, ℕ, leb, Result}
 use Rattle.std.proofs.Math.Path.{sym, ap}
 use Rattle.std.proofs.Common.{subst, ◌∙◌, arith, lit<, leb-true, le-leb}
 use Rattle.std.proofs.lemmas.Bool.{false≢true}
@@ -41,7 +41,7 @@ use Rattle.check_tree.specs.Same.{tree_safe, tree_test_law}
 use Rattle.check_counts.specs.Same.{counts_safe, counts_test_law}
 use Rattle.walk_roots.specs.Tables.{RegionsNamed}
 use Rattle.check_control.specs.Meets.{named_refers}
-use Rattle.results.specs.declared.Parsed.{Parsed}
+use Rattle.refusals.specs.declared.Refusal.{Refusal}
 use Rattle.check_text.specs.Test.{judge, few_test, checks_test, ChecksSafe}
 use Rattle.check_text.specs.Same.{verdict, Passes, Stands}
 
@@ -160,7 +160,7 @@ module _ (F : Func) {z : List ℕ} (clear : Clear z) (opcodes : Bool) (fit : opc
   pub checks_same : (edges : Bool) → (within_limits F ≡ true → edges ≡ every (λ c. edges_fit F c.1) F.ctrls) → verdict (checks_test (keep_func F z) opcodes edges) F ≡ checked F
   unfolding checks_test
   checks_same edges e =
-      ap (λ (x : Parsed). verdict x F)
+      ap (λ (x : Result Unit Refusal). verdict x F)
       (same (within_limits F) (references_hold F) (is_tree F) (counts_agree F) (control_fits F) (targets_differ F)
       limits_are
       references_are

@@ -1,6 +1,6 @@
 -- What the code's answer says of a function, and what holds of a text that passes refusals 3 to 7 and 13: it passes each test, and it stands in the
 -- slice whole. Definitions. Assumes nothing.
-use Rattle.std.specs.Prelude.{◌≡◌, true, List, ℕ}
+use Rattle.std.specs.Prelude.{◌≡◌, true, List, ℕ, Result, Ok, Err}
 use Rattle.lifting.specs.Ast.{Func}
 use Rattle.lifting.specs.Limits.{within_limits}
 use Rattle.lifting.specs.References.{references_hold}
@@ -9,17 +9,16 @@ use Rattle.lifting.specs.Counts.{counts_agree}
 use Rattle.lifting.specs.Control.{control_fits, targets_differ}
 use Rattle.lifting.specs.Answer as answer
 use Rattle.lifting.specs.Answer.{parsed, denied}
+use Rattle.refusals.specs.declared.Refusal.{Refusal}
 use Rattle.refusals.specs.Numbers.{refusal_number}
 use Rattle.func.specs.Decode.{func_of}
 use Rattle.func.specs.Tables.{Tables}
 use Rattle.walk_roots.specs.Tables.{RegionsNamed}
-use Rattle.results.specs.declared.Parsed.{Parsed}
-use Rattle.results.specs.declared.Parsed.TheVariants.{Function, Refused}
 
 -- what the code's answer says of the function
-abbrev pub verdict : Parsed → Func → answer.Parsed
-verdict Function F = parsed F
-verdict (Refused x) F = denied (refusal_number x)
+abbrev pub verdict : Result Unit Refusal → Func → answer.Parsed
+verdict (Ok u) F = parsed F
+verdict (Err x) F = denied (refusal_number x)
 
 -- a text that passes 3 to 7 and 13
 pub record Passes (F : Func) : Type 0 where

@@ -2,11 +2,11 @@
 #![tactic(auto)]
 
 ghost use Rattle.std.specs.Prelude.{◌≡◌, ◌≤◌, length, take};
-ghost use Rattle.command.specs.Named.{chosen_by, name_of, same_bytes};
+ghost use Rattle.command.specs.Named.{chosen_by, name_of};
 ghost use Rattle.command.specs.Opened.{index_of, line_room, opened_of, word_of};
 
 // The list of an input with a first line; the reader's answer to a text; a text's kept blocks; what there is; and a word that names none.
-#[derive(Clone, Copy)]
+#[derive(Clone, Copy, PartialEq, Eq)]
 pub enum Command {
     Lift,
     Read,
@@ -22,42 +22,28 @@ pub struct Case {
     pub at: usize,
 }
 
-fn same(a: &[u8], b: &[u8]) -> bool
-    ensures { result ≡ same_bytes a.now b.now }
-{
-    if a.len() != b.len() {
-        return false;
-    }
-    let mut i: usize = 0;
-    while i < a.len() {
-        if a[i] != b[i] {
-            return false;
-        }
-        i += 1;
-    }
-    true
-}
-
 // The command that a word names.
+#[tactic(auto, unfolding(crate::specs::Named::name_of))]
 pub fn named(word: &[u8]) -> Command
     ensures { result ≡ name_of word.now }
 {
-    if same(word, b"lift") {
+    if word == b"lift".as_slice() {
         return Command::Lift;
     }
-    if same(word, b"read") {
+    if word == b"read".as_slice() {
         return Command::Read;
     }
-    if same(word, b"blocks") {
+    if word == b"blocks".as_slice() {
         return Command::Blocks;
     }
-    if same(word, b"help") {
+    if word == b"help".as_slice() {
         return Command::Help;
     }
     Command::Unknown
 }
 
 // The command of a program that was started with so many arguments, its own name among them, of which this is the first behind its name.
+#[tactic(auto, unfolding(crate::specs::Named::chosen_by))]
 pub fn chosen(count: usize, word: &[u8]) -> Command
     ensures { result ≡ chosen_by count word.now }
 {
@@ -70,13 +56,11 @@ pub fn chosen(count: usize, word: &[u8]) -> Command
 // The bytes in which the first line of a case must end.
 pub const LINE: usize = 128;
 
+#[tactic(auto, using(std::proofs::lemmas::List::take_min))]
 fn front(case: &[u8]) -> &[u8]
     ensures { result.now ≡ take line_room case.now }
 {
-    if LINE < case.len() {
-        return &case[..LINE];
-    }
-    case
+    &case[..LINE.min(case.len())]
 }
 
 // The place of a byte in a line, or the line's length where it doesn't stand there.
@@ -93,6 +77,7 @@ fn find(line: &[u8], byte: u8) -> usize
 }
 
 // The command that the first word of a line names.
+#[tactic(auto, unfolding(crate::specs::Opened::word_of))]
 fn first_word(line: &[u8]) -> Command
     ensures { result ≡ word_of line.now }
 {
@@ -115,7 +100,7 @@ pub fn opened(case: &[u8]) -> Case
     }
     let command = first_word(&head[..end]);
     Case {
-        command: command,
+        command,
         at: end + 1,
     }
 }

@@ -1,7 +1,7 @@
 -- Refusals 10 and 11 and the list, as the code finds them. Assumes nothing.
 --     gives_values, gives_room, gives_list    what is told and what stands in the output slice
 --     missing_any, missing_none               refusal 10 by the flag
-use mathlib.Core.Path.{◌≡◌, refl, sym, ap₂, ◌∙◌}
+use mathlib.Core.Path.{◌≡◌, refl, sym, ap, ap₂, ◌∙◌}
 use mathlib.Core.Bool.{Bool, true, false, not}
 use mathlib.Core.List.{List, ◌++◌}
 use Prim.Native.Nat.{ℕ}
@@ -23,20 +23,23 @@ use Rattle.check_text.specs.Same.{Passes}
 use Rattle.emit_words.specs.declared.Cursor.{Cursor}
 use Rattle.emit_words.specs.Put.{Put, missed_mark}
 use Rattle.emit_words.specs.Items.{list_items}
-use Rattle.results.specs.declared.Lifted.TheVariants.{Whole, Refused}
-use Rattle.emit_output.specs.Emit.{Gives, by_list, by_room, by_values, emitted, gives, gives_same}
+use Rattle.std.specs.Prelude.{Ok, Err}
+use Rattle.results.specs.declared.Unlifted.{Unlifted}
+use Rattle.results.specs.Told.{no_list}
+use Rattle.emit_output.specs.Emit.{Gives, by_list, by_room, by_values, emitted, gives, gives_same, refuses}
 use Rattle.emit_output.specs.Listed.{all_given_law, missed_is}
 
 module _ (F : Func) (first n : ℕ) (out : List ℕ) where
-  pub gives_values : values_set F ≡ false → Gives (emitted F first n) (Refused Values 0) out out
-  gives_values e = gives_same {a = refused (refusal_number Values)} (record { told = refl; words = refl }) (sym (by_values F first n e))
+  pub gives_values : values_set F ≡ false → {r : Unlifted} → r ≡ no_list Values → Gives (emitted F first n) (Err r) out out
+  gives_values e is =
+      gives_same {a = refused (refusal_number Values)} (record { told = ap (λ (x : Unlifted). refuses (refusal_number x.refusal)) is; words = refl }) (sym (by_values F first n e))
 
-  pub gives_room : values_set F ≡ true → leb (length (words (list_of F first))) n ≡ false → (k : ℕ) → Gives (emitted F first n) (Refused Output k) out out
+  pub gives_room : values_set F ≡ true → leb (length (words (list_of F first))) n ≡ false → (k : ℕ) → Gives (emitted F first n) (Err (record { refusal = Output; wanted = k })) out out
   gives_room e z k = gives_same {a = refused (refusal_number Output)} (record { told = refl; words = refl }) (sym (by_room F first n e z))
 
   pub gives_list : values_set F ≡ true → leb (length (words (list_of F first))) n ≡ true → {k next : ℕ} {exit : List ℕ} → k ≡ length (words (list_of F first))
       → next ≡ next_id F first (walk_of F) (kept (walk_of F)) → exit ≡ words (list_of F first) ++ drop (length (words (list_of F first))) out
-      → Gives (emitted F first n) (Whole k next) out exit
+      → Gives (emitted F first n) (Ok (record { words = k; next = next })) out exit
   gives_list e z ek en ex = gives_same (record { told = ap₂ gives ek en; words = ex }) (sym (by_list F first n e z))
 
 -- 10

@@ -3,8 +3,8 @@
 --     Wants, wants_not              what refusal 11 tells, and no other
 --     Gives                         what is told and what stands in the output slice, by an answer
 --     by_ids, by_values, by_room, by_list    refusals 9 to 11 and the list
-use Rattle.std.specs.Prelude.{◌≡◌, true, false, List, ℕ, eqb, leb, length}
-use Rattle.std.proofs.Common.{ap, ◌∙◌}
+use Rattle.std.specs.Prelude.{◌≡◌, true, false, List, ℕ, eqb, leb, length, Result, Ok, Err}
+use Rattle.std.proofs.Common.{sym, ap, ◌∙◌}
 use Rattle.std.proofs.lemmas.Bool.{eqb-false}
 use Rattle.refusals.specs.declared.Refusal.{Refusal}
 use Rattle.refusals.specs.declared.Refusal.TheVariants.{Ids, Values, Output}
@@ -17,35 +17,36 @@ use Rattle.lifting.specs.Instructions.{list_of}
 use Rattle.lifting.specs.Words.{words}
 use Rattle.lifting.specs.Answer.{Answer, ids_fit, lifted, listed, out_after, parsed, refused, values_set, written}
 use Rattle.results.specs.declared.Lifted.{Lifted}
-use Rattle.results.specs.declared.Lifted.TheVariants.{Whole, Refused}
+use Rattle.results.specs.declared.Unlifted.{Unlifted}
+use Rattle.results.specs.Told.{no_list}
 
 -- An accepted call gives the word count and the next free id; any other, the refusal's number.
 pub data Outcome : Type 0 where
   gives : ℕ → ℕ → Outcome
   refuses : ℕ → Outcome
 
-abbrev pub told : Lifted → Outcome
-told (Whole n next) = gives n next
-told (Refused r n) = refuses (refusal_number r)
+abbrev pub told : Result Lifted Unlifted → Outcome
+told (Ok l) = gives l.words l.next
+told (Err e) = refuses (refusal_number e.refusal)
 
 abbrev pub outcome : Answer → Outcome
 outcome (listed ws next) = gives (length ws) next
 outcome (refused n) = refuses n
 
 -- Refusal 11 tells that k words are wanted; no other answer says anything of them.
-abbrev pub Wants : ℕ → Lifted → Type 0
-Wants k (Whole n next) = Unit {0}
-Wants k (Refused r n) = refusal_number r ≡ refusal_number Output → n ≡ k
+abbrev pub Wants : ℕ → Result Lifted Unlifted → Type 0
+Wants k (Ok l) = Unit {0}
+Wants k (Err e) = refusal_number e.refusal ≡ refusal_number Output → e.wanted ≡ k
 
-pub wants_not : (r : Refusal) (n k : ℕ) → eqb (refusal_number r) (refusal_number Output) ≡ false → Wants k (Refused r n)
-wants_not r n k other e = absurd (eqb-false (refusal_number r) (refusal_number Output) other e)
+pub wants_not : (r : Refusal) (k : ℕ) {e : Unlifted} → e ≡ no_list r → eqb (refusal_number r) (refusal_number Output) ≡ false → Wants k (Err e)
+wants_not r k is other z = absurd (eqb-false (refusal_number r) (refusal_number Output) other (sym (ap (λ (x : Unlifted). refusal_number x.refusal) is) ∙ z))
 
 -- what stands in the output slice and what is told, of an answer
-pub record Gives (a : Answer) (r : Lifted) (out exit : List ℕ) : Type 0 where
+pub record Gives (a : Answer) (r : Result Lifted Unlifted) (out exit : List ℕ) : Type 0 where
   pub told : told r ≡ outcome a
   pub words : exit ≡ out_after a out
 
-pub gives_same : {a b : Answer} {r : Lifted} {out exit : List ℕ} → Gives a r out exit → a ≡ b → Gives b r out exit
+pub gives_same : {a b : Answer} {r : Result Lifted Unlifted} {out exit : List ℕ} → Gives a r out exit → a ≡ b → Gives b r out exit
 gives_same {out = out} g e = record { told = g.told ∙ ap outcome e; words = g.words ∙ ap (λ (x : Answer). out_after x out) e }
 
 -- ---- the function in its tables

@@ -16,7 +16,7 @@ use emit_values::all_given;
 use emit_words::Cursor;
 use func_look::region_total;
 use refusals::Refusal;
-use results::Lifted;
+use results::{Lifted, Unlifted};
 
 // No list has more words.
 const MOST_WORDS: usize = 23184;
@@ -36,7 +36,14 @@ fn is_sure(func: &[u32], work: &[u32], room: usize, m: usize, first: u32) -> boo
 }
 
 // Then the list is written at once.
-fn at_once(func: &[u32], work: &[u32], out: &mut [u32], m: usize, first: u32, next: u32) -> Lifted
+fn at_once(
+    func: &[u32],
+    work: &[u32],
+    out: &mut [u32],
+    m: usize,
+    first: u32,
+    next: u32,
+) -> Result<Lifted, Unlifted>
     requires over { Over func.now work.now m first }
     requires first_value { ids_fit (func_of func.now) first ≡ true }
     requires next_value { next ≡ next_in (func_of func.now) first }
@@ -45,7 +52,10 @@ fn at_once(func: &[u32], work: &[u32], out: &mut [u32], m: usize, first: u32, ne
     ensures wanted { Wants (length (words (list_of (func_of func.now) first))) result }
 {
     let end = put_list(func, work, out, Cursor { at: 0, missed: 0 }, m, first);
-    Lifted::Whole(end.at, next)
+    Ok(Lifted {
+        words: end.at,
+        next,
+    })
 }
 
 // The list is counted before its first word is written: an id that is missing is refusal 10, and a slice that is too short 11.
@@ -56,7 +66,7 @@ fn counted_first(
     m: usize,
     first: u32,
     next: u32,
-) -> Lifted
+) -> Result<Lifted, Unlifted>
     requires over { Over func.now work.now m first }
     requires first_value { ids_fit (func_of func.now) first ≡ true }
     requires next_value { next ≡ next_in (func_of func.now) first }
@@ -67,13 +77,19 @@ fn counted_first(
     let mut none = [0u32; 1];
     let counted = put_list(func, work, &mut none, start, m, first);
     if counted.missed != 0 {
-        return Lifted::Refused(Refusal::Values, 0);
+        return Err(Unlifted::from(Refusal::Values));
     }
     if out.len() < counted.at {
-        return Lifted::Refused(Refusal::Output, counted.at);
+        return Err(Unlifted {
+            refusal: Refusal::Output,
+            wanted: counted.at,
+        });
     }
     put_list(func, work, out, start, m, first);
-    Lifted::Whole(counted.at, next)
+    Ok(Lifted {
+        words: counted.at,
+        next,
+    })
 }
 
 // The list is in the output slice, or it is refused. It is counted first only where it might be.
@@ -84,7 +100,7 @@ pub fn written(
     m: usize,
     first: u32,
     next: u32,
-) -> Lifted
+) -> Result<Lifted, Unlifted>
     requires over { Over func.now work.now m first }
     requires first_value { ids_fit (func_of func.now) first ≡ true }
     requires next_value { next ≡ next_in (func_of func.now) first }

@@ -18,12 +18,14 @@ use Rattle.lifting.specs.Ids.{next_id}
 use Rattle.lifting.specs.Words.{words}
 use Rattle.lifting.specs.Answer.{ids_fit, lifted, parsed, refused}
 use Rattle.check_first.specs.Fit.{ids_fit_law}
-use Rattle.results.specs.declared.Lifted.TheVariants.{Refused}
-use Rattle.emit_output.specs.Emit.{Gives, by_ids, gives_same}
+use Rattle.std.specs.Prelude.{Err}
+use Rattle.results.specs.declared.Unlifted.{Unlifted}
+use Rattle.results.specs.Told.{no_list}
+use Rattle.emit_output.specs.Emit.{Gives, by_ids, gives_same, refuses}
 
 module _ (F : Func) (first n : ℕ) (out : List ℕ) where
-  pub gives_ids : ids_fit F first ≡ false → Gives (lifted (parsed F) first n) (Refused Ids 0) out out
-  gives_ids e = gives_same {a = refused (refusal_number Ids)} (record { told = refl; words = refl }) (sym (by_ids F first n e))
+  pub gives_ids : ids_fit F first ≡ false → {r : Unlifted} → r ≡ no_list Ids → Gives (lifted (parsed F) first n) (Err r) out out
+  gives_ids e is = gives_same {a = refused (refusal_number Ids)} (record { told = ap (λ (x : Unlifted). refuses (refusal_number x.refusal)) is; words = refl }) (sym (by_ids F first n e))
 
 and_false : (a b : Bool) → a ≡ false → (a && b) ≡ false
 and_false a b e = ap (λ (t : Bool). t && b) e

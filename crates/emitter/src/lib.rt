@@ -19,7 +19,7 @@ use emit_output::written;
 use func_look::region_total;
 use refusals::Refusal;
 use refusals::limits::{id_fits, next_fits};
-use results::Lifted;
+use results::{Lifted, Unlifted};
 
 // The blocks of the text stand in the work slice: how many points are visited. An imported function has none.
 fn lay(func: &[u32], work: &mut [u32]) -> usize
@@ -36,7 +36,7 @@ fn lay(func: &[u32], work: &mut [u32]) -> usize
 
 // The list of the text that stands in the tables is written to the output slice, with new ids from the first one on; or refusal 9, 10 or 11 leaves that
 // slice alone. The work slice may hold anything, and keeps what was laid out there.
-pub fn emit(func: &[u32], work: &mut [u32], out: &mut [u32], first: u32) -> Lifted
+pub fn emit(func: &[u32], work: &mut [u32], out: &mut [u32], first: u32) -> Result<Lifted, Unlifted>
     requires stands { Stands (func_of func.now) func.now }
     requires work_need_in_bounds { work_need ≤ length work.old }
     ensures gives { Gives (lifted (parsed (func_of func.now)) first (length out.old)) result out.old out.new }
@@ -44,15 +44,15 @@ pub fn emit(func: &[u32], work: &mut [u32], out: &mut [u32], first: u32) -> Lift
     ensures wanted { Wants (length (words (list_of (func_of func.now) first))) result }
 {
     if !first_fits(func, first) {
-        return Lifted::Refused(Refusal::Ids, 0);
+        return Err(Unlifted::from(Refusal::Ids));
     }
     if !id_fits(first) {
-        return Lifted::Refused(Refusal::Ids, 0);
+        return Err(Unlifted::from(Refusal::Ids));
     }
     let m = lay(func, work);
     let next = number(func, work, m, first);
     if !next_fits(next) {
-        return Lifted::Refused(Refusal::Ids, 0);
+        return Err(Unlifted::from(Refusal::Ids));
     }
     link(func, work, m);
     written(func, work, out, m, first, next)

@@ -3,7 +3,7 @@
 -- each phi has one pair for each block whose way out names its block; the two labels of a 250 differ; each merge carries its own node's control
 -- number, on which neither run depends. The hypotheses are what `lift_function` promises, that it told a word count, for the runs that the text has
 -- a body, and for their being alike that constants of opcode 41 are true. Assumes nothing.
-use Rattle.std.specs.Prelude.{◌≡◌, true, List, ℕ, suc, ◌≤◌, ◌<◌, drop, length, take}
+use Rattle.std.specs.Prelude.{◌≡◌, true, List, ℕ, suc, ◌≤◌, ◌<◌, drop, length, take, Ok}
 use Rattle.std.proofs.Common.{sym, ap, subst, ◌∙◌, arith, length-append}
 use Rattle.std.proofs.Math.Option.{some}
 use Rattle.std.proofs.Math.Seq.{take-append_seam}
@@ -33,7 +33,6 @@ use Rattle.lifting_blocks.specs.Labels.{LabelsDiffer}
 use Rattle.lifting_blocks.specs.Merges.{OwnControl}
 use Rattle.lifting_blocks.specs.Demand2.{list_below, list_ids, list_phis}
 use Rattle.lifting_blocks.proofs.Demand2.{list_controls, list_labels}
-use Rattle.results.specs.declared.Lifted.TheVariants.{Whole}
 use Rattle.emit_output.specs.Emit.{gives, outcome, told}
 
 -- an answer that gives n words is their list
@@ -48,7 +47,7 @@ module _ (text func work out exit : List ℕ) (first n next : ℕ) where
   abbrev given : Answer
   given = answer text first (length func) (length work) (length out)
 
-  module _ (says : told (Whole n next) ≡ outcome given) (stands : exit ≡ out_after given out) where
+  module _ (says : told (Ok (record { words = n; next = next })) ≡ outcome given) (stands : exit ≡ out_after given out) where
     -- the first n words of the output slice are the list's
     pub written_list : (ws : List ℕ) × (given ≡ listed ws next) × (take n exit ≡ ws)
     written_list =

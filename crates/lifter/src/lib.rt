@@ -10,12 +10,18 @@ ghost use Rattle.lifter.specs.Entry.{EndsClear, answer_to, wanted_to};
 use emitter::emit;
 use reader::{enough, judge};
 use refusals::Refusal;
-use results::{Lifted, Parsed};
+use results::{Lifted, Unlifted};
 use work::clear_all;
 
 // The text is judged and lifted over whatever the scratch slices held. They keep what was read and laid out there, and what is answered asks that they
 // end as zeros.
-fn lift(text: &[u8], first: u32, func: &mut [u32], work: &mut [u32], out: &mut [u32]) -> Lifted
+fn lift(
+    text: &[u8],
+    first: u32,
+    func: &mut [u32],
+    work: &mut [u32],
+    out: &mut [u32],
+) -> Result<Lifted, Unlifted>
     requires { (func_words ≤ length func.old) × (work_words ≤ length work.old) }
     ensures gives { Gives (answer_to text.now first func.old work.old out.old) result out.old out.new }
     ensures ends_clear { EndsClear (answer_to text.now first func.old work.old out.old) }
@@ -23,11 +29,8 @@ fn lift(text: &[u8], first: u32, func: &mut [u32], work: &mut [u32], out: &mut [
     ensures work_len_unchanged { length work.new ≡ length work.old }
     ensures wanted { Wants (wanted_to text.now first func.old work.old) result }
 {
-    let p = judge(text, func, work);
-    match p {
-        Parsed::Refused(r) => Lifted::Refused(r, 0),
-        Parsed::Function => emit(func, work, out, first),
-    }
+    judge(text, func, work)?;
+    emit(func, work, out, first)
 }
 
 // The list of the text stands in the output slice, and its count of words and the next free id are given; or the first refusal that holds, in the
@@ -39,7 +42,7 @@ pub fn lift_function(
     func: &mut [u32],
     work: &mut [u32],
     out: &mut [u32],
-) -> Lifted
+) -> Result<Lifted, Unlifted>
     ensures told { told result ≡ outcome (answer_to text.now first func.old work.old out.old) }
     ensures func_slice { func.new ≡ scratch_after (answer_to text.now first func.old work.old out.old) func.old }
     ensures work_slice { work.new ≡ scratch_after (answer_to text.now first func.old work.old out.old) work.old }
@@ -47,7 +50,7 @@ pub fn lift_function(
     ensures wanted { Wants (wanted_to text.now first func.old work.old) result }
 {
     if !enough(func, work) {
-        return Lifted::Refused(Refusal::Scratch, 0);
+        return Err(Unlifted::from(Refusal::Scratch));
     }
     let r = lift(text, first, func, work, out);
     clear_all(func);

@@ -14,8 +14,6 @@ ghost use Rattle.print_blocks.specs.Stand.{LaidOut, WorkAfter};
 use blocks::blocks;
 use func_look::region_total;
 use print_kept::put_lines;
-use refusals::number;
-use results::Parsed;
 
 // The lines of a function.
 fn put_function(func: &[u32], work: &mut [u32], out: &mut [u8]) -> usize
@@ -37,9 +35,8 @@ pub fn put_answer(text: &[u8], func: &mut [u32], work: &mut [u32], out: &mut [u8
     ensures func_after { func.new ≡ func_after (parse text.now (length func.old) (length work.old)) func.old }
     ensures work_after { WorkAfter (parse text.now (length func.old) (length work.old)) work.old work.new }
 {
-    let r = reader::parse(text, func, work);
-    match r {
-        Parsed::Function => put_function(func, work, out),
-        Parsed::Refused(x) => print_refusal::refused(number(x), out),
+    match reader::parse(text, func, work) {
+        Ok(()) => put_function(func, work, out),
+        Err(r) => print_refusal::refused(u32::from(r), out),
     }
 }

@@ -8,13 +8,11 @@ ghost use Rattle.general_laws.specs.Part.{sat};
 ghost use Rattle.print_bytes.specs.Put.{PutBytes};
 ghost use Rattle.print_bytes.specs.Lines.{field_bytes};
 
-const LIMIT: usize = 18446744073709551615;
-
-// The place after `at`, which stays at the last_place.
+// The place after `at`, which stays at the last one.
 fn after(at: usize) -> usize
     ensures { result ≡ sat (at + 1) }
 {
-    if at < LIMIT { at + 1 } else { at }
+    at.saturating_add(1)
 }
 
 // Stores a byte where there is room.
@@ -37,10 +35,8 @@ pub fn put_bytes(out: &mut [u8], at: usize, s: &[u8]) -> usize
     ensures { PutBytes out.old at s.now out.new result }
 {
     let mut next = at;
-    let mut i: usize = 0;
-    while i < s.len() {
-        next = put_byte(out, next, s[i]);
-        i += 1;
+    for b in s {
+        next = put_byte(out, next, *b);
     }
     next
 }

@@ -10,40 +10,25 @@ ghost use Rattle.print_bytes.specs.Lines.{imm_form_bytes, id_form_bytes};
 use print_bytes::{put_byte, put_bytes};
 use print_operands::{put_ids, put_imms};
 
-pub fn wide(x: u32) -> usize
-    ensures { result ≡ x }
-{
-    x as usize
-}
-
 // The word at a place, 0 past the end.
 pub fn word(words: &[u32], at: usize) -> u32
     ensures { result ≡ get_or words.now at 0 }
 {
-    if at < words.len() {
-        return words[at];
-    }
-    0
+    words.get(at).copied().unwrap_or(0)
 }
 
 // The first n words, or all of them where there are fewer.
 fn front(words: &[u32], n: usize) -> &[u32]
     ensures { result.now ≡ take n words.now }
 {
-    if n < words.len() {
-        return &words[..n];
-    }
-    words
+    &words[..n.min(words.len())]
 }
 
 // The words from the n-th on, none where there are fewer.
 fn rest(words: &[u32], n: usize) -> &[u32]
     ensures { result.now ≡ drop n words.now }
 {
-    if n < words.len() {
-        return &words[n..];
-    }
-    &words[..0]
+    &words[n.min(words.len())..]
 }
 
 // ` (imms ..)` of the instruction whose words stand at the front of these.
@@ -59,8 +44,8 @@ pub fn put_imm_form(out: &mut [u8], at: usize, words: &[u32]) -> usize
 pub fn put_id_form(out: &mut [u8], at: usize, words: &[u32]) -> usize
     ensures { PutBytes out.old at (id_form_bytes (inst_from words.now).got.ids) out.new result }
 {
-    let imms = wide(word(words, 4));
-    let ids = wide(word(words, 5 + 3 * imms));
+    let imms = word(words, 4) as usize;
+    let ids = word(words, 5 + 3 * imms) as usize;
     let a = put_bytes(out, at, b" (ids");
     let b = put_ids(out, a, front(rest(words, 6 + 3 * imms), ids));
     put_byte(out, b, b')')

@@ -86,10 +86,8 @@ pub fn put_lines(func: &[u32], work: &[u32], m: usize, out: &mut [u8]) -> usize
     ensures { PutBytes out.old 0 (block_lines (func_of func.now)) out.new result }
 {
     let mut at: usize = 0;
-    let mut i = 0;
-    while i < m {
+    for i in 0..m {
         at = put_position(func, work, m, i, out, at);
-        i += 1;
     }
     at
 }

@@ -27,10 +27,8 @@ pub fn put_targets(
 {
     let n = target_count(func, work, m, i);
     let mut next = at;
-    let mut k = 0;
-    while k < n {
+    for k in 0..n {
         next = put_point(out, next, target(func, work, m, i, k));
-        k += 1;
     }
     next
 }
@@ -43,10 +41,8 @@ pub fn put_merge(func: &[u32], work: &[u32], m: usize, i: usize, out: &mut [u8],
 {
     let n = merge_count(func, work, m, i);
     let mut next = at;
-    let mut k = 0;
-    while k < n {
+    for k in 0..n {
         next = put_point(out, next, label(func, work, m, i, k));
-        k += 1;
     }
     next
 }

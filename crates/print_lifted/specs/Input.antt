@@ -2,7 +2,8 @@
 --     bytes_cut, leaves_cut, bytes_known    how much of an input decides
 --     bad_line, good_line, bad_leaves, good_leaves, line_low    by the first line
 --     lifted_bytes_law, lifted_stands    what the entry tells and leaves in the output slice gives these bytes
-use Rattle.std.specs.Prelude.{◌≡◌, true, ℕ, ◌≤◌, drop, length, take}
+use Rattle.std.specs.Prelude as rust
+use Rattle.std.specs.Prelude.{◌≡◌, true, ℕ, ◌≤◌, drop, length, take, None, Some, Result, Ok, Err}
 use Rattle.std.proofs.Math.Path.{sym, ap}
 use Rattle.std.proofs.Common.{subst, ◌∙◌, arith}
 use mathlib.Core.List.{List, ◌++◌}
@@ -12,13 +13,11 @@ use Rattle.refusals.specs.Numbers.{refusal_number}
 use Rattle.lifting.specs.Words.{list_from}
 use Rattle.lifting.specs.Answer.{Answer, answer, listed, out_after, refused}
 use Rattle.results.specs.declared.Lifted.{Lifted}
-use Rattle.results.specs.declared.Lifted.TheVariants.{Refused, Whole}
+use Rattle.results.specs.declared.Unlifted.{Unlifted}
 use Rattle.emit_output.specs.Emit.{outcome, refuses, told}
 use Rattle.lifter.specs.Demand3.{written_list, written_low}
 use Rattle.print_bytes.specs.Shown.{list_bytes, refused_bytes}
 use Rattle.read_cursor.specs.Read.{Moves, Reads, rest_from}
-use Rattle.read_first.specs.declared.First.{First}
-use Rattle.read_first.specs.declared.First.TheVariants.{At, Bad}
 use Rattle.read_first.specs.Opening.{first_line_form, first_answer}
 use Rattle.read_first.specs.Cut.{ByText, input_room}
 use Rattle.read_first.proofs.Cut.{answer_cut, input_cut}
@@ -72,13 +71,13 @@ module _ (func work out : ℕ) where
   bytes_known = known_decides (λ (o : Option (ℕ × List ℕ)). line_bytes o func work out) bytes_by_text
 
 -- what the entry told, with the words of the output slice
-abbrev pub lifted_bytes : Lifted → List ℕ → List ℕ
-lifted_bytes (Whole n next) out = list_bytes (list_from (take n out))
-lifted_bytes (Refused r n) out = refused_bytes (refusal_number r)
+abbrev pub lifted_bytes : Result Lifted Unlifted → List ℕ → List ℕ
+lifted_bytes (Ok l) out = list_bytes (list_from (take l.words out))
+lifted_bytes (Err e) out = refused_bytes (refusal_number e.refusal)
 
-abbrev pub InputStands : Lifted → List ℕ → Type 0
-InputStands (Whole n next) out = n ≤ length out
-InputStands (Refused r n) out = Unit {0}
+abbrev pub InputStands : Result Lifted Unlifted → List ℕ → Type 0
+InputStands (Ok l) out = l.words ≤ length out
+InputStands (Err e) out = Unit {0}
 
 refused_of : (a : Answer) (n : ℕ) → refuses n ≡ outcome a → a ≡ refused n
 refused_of (listed ws k) n e = absurd (let z : ◌≡◌ {A = ℕ} 0 1 = cc in omega arith)
@@ -88,37 +87,37 @@ module _ (text func work out exit : List ℕ) (first : ℕ) where
   abbrev given : Answer
   given = answer text first (length func) (length work) (length out)
 
-  pub lifted_bytes_law : (r : Lifted) → told r ≡ outcome given → exit ≡ out_after given out → lifted_bytes r exit ≡ answer_bytes given
-  lifted_bytes_law (Whole n next) says stands =
-      let l = written_list text func work out exit first n next says stands in
+  pub lifted_bytes_law : (r : Result Lifted Unlifted) → told r ≡ outcome given → exit ≡ out_after given out → lifted_bytes r exit ≡ answer_bytes given
+  lifted_bytes_law (Ok list) says stands =
+      let l = written_list text func work out exit first list.words list.next says stands in
       ap (λ (ws : List ℕ). list_bytes (list_from ws)) l.2 ∙ sym (ap answer_bytes l.1)
-  lifted_bytes_law (Refused r n) says stands = sym (ap answer_bytes (refused_of given (refusal_number r) says))
+  lifted_bytes_law (Err e) says stands = sym (ap answer_bytes (refused_of given (refusal_number e.refusal) says))
 
-  pub lifted_stands : (r : Lifted) → told r ≡ outcome given → exit ≡ out_after given out → InputStands r exit
-  lifted_stands (Whole n next) says stands = written_low text func work out exit first n next says stands
-  lifted_stands (Refused r n) says stands = tt
+  pub lifted_stands : (r : Result Lifted Unlifted) → told r ≡ outcome given → exit ≡ out_after given out → InputStands r exit
+  lifted_stands (Ok list) says stands = written_low text func work out exit first list.words list.next says stands
+  lifted_stands (Err e) says stands = tt
 
 -- ---- the first line
 
-module _ (input : List ℕ) (func work out : ℕ) (r : First) (reads : Reads first_line_form.read input 0 (first_answer r)) where
+module _ (input : List ℕ) (func work out : ℕ) (r : rust.Option (ℕ × ℕ)) (reads : Reads first_line_form.read input 0 (first_answer r)) where
   line_is : first_line_form.read input ≡ rest_from input (first_answer r)
   line_is = reads.is
 
-  pub bad_line : r ≡ Bad → refused_bytes (refusal_number Forms) ≡ input_bytes input func work out
+  pub bad_line : r ≡ None → refused_bytes (refusal_number Forms) ≡ input_bytes input func work out
   unfolding input_bytes
-  bad_line e = sym (ap (λ (o : Option (ℕ × List ℕ)). line_bytes o func work out) (line_is ∙ ap (λ (x : First). rest_from input (first_answer x)) e))
+  bad_line e = sym (ap (λ (o : Option (ℕ × List ℕ)). line_bytes o func work out) (line_is ∙ ap (λ (x : rust.Option (ℕ × ℕ)). rest_from input (first_answer x)) e))
 
-  pub good_line : {n k : ℕ} → r ≡ At n k → answer_bytes (answer (drop k input) n func work out) ≡ input_bytes input func work out
+  pub good_line : {n k : ℕ} → r ≡ Some (n, k) → answer_bytes (answer (drop k input) n func work out) ≡ input_bytes input func work out
   unfolding input_bytes
-  good_line e = sym (ap (λ (o : Option (ℕ × List ℕ)). line_bytes o func work out) (line_is ∙ ap (λ (x : First). rest_from input (first_answer x)) e))
+  good_line e = sym (ap (λ (o : Option (ℕ × List ℕ)). line_bytes o func work out) (line_is ∙ ap (λ (x : rust.Option (ℕ × ℕ)). rest_from input (first_answer x)) e))
 
-  pub bad_leaves : (g : Answer → List ℕ → List ℕ) (w : List ℕ) → r ≡ Bad → w ≡ input_leaves g input func work out w
+  pub bad_leaves : (g : Answer → List ℕ → List ℕ) (w : List ℕ) → r ≡ None → w ≡ input_leaves g input func work out w
   unfolding input_leaves
-  bad_leaves g w e = sym (ap (λ (o : Option (ℕ × List ℕ)). line_leaves g o func work out w) (line_is ∙ ap (λ (x : First). rest_from input (first_answer x)) e))
+  bad_leaves g w e = sym (ap (λ (o : Option (ℕ × List ℕ)). line_leaves g o func work out w) (line_is ∙ ap (λ (x : rust.Option (ℕ × ℕ)). rest_from input (first_answer x)) e))
 
-  pub good_leaves : (g : Answer → List ℕ → List ℕ) (w : List ℕ) {n k : ℕ} → r ≡ At n k → g (answer (drop k input) n func work out) w ≡ input_leaves g input func work out w
+  pub good_leaves : (g : Answer → List ℕ → List ℕ) (w : List ℕ) {n k : ℕ} → r ≡ Some (n, k) → g (answer (drop k input) n func work out) w ≡ input_leaves g input func work out w
   unfolding input_leaves
-  good_leaves g w e = sym (ap (λ (o : Option (ℕ × List ℕ)). line_leaves g o func work out w) (line_is ∙ ap (λ (x : First). rest_from input (first_answer x)) e))
+  good_leaves g w e = sym (ap (λ (o : Option (ℕ × List ℕ)). line_leaves g o func work out w) (line_is ∙ ap (λ (x : rust.Option (ℕ × ℕ)). rest_from input (first_answer x)) e))
 
-  pub line_low : {n k : ℕ} → r ≡ At n k → k ≤ length input
-  line_low {n} {k} e = (subst (λ (x : First). Moves input 0 (first_answer x)) e reads.moves).fits
+  pub line_low : {n k : ℕ} → r ≡ Some (n, k) → k ≤ length input
+  line_low {n} {k} e = (subst (λ (x : rust.Option (ℕ × ℕ)). Moves input 0 (first_answer x)) e reads.moves).fits

@@ -10,18 +10,17 @@ ghost use Rattle.print_lifted.specs.Input.{InputStands, answer_bytes, input_byte
 use lifter::lift_function;
 use print_list::list;
 use print_refusal::{bad_line, refused};
-use read_first::{First, first_line};
-use refusals::number;
-use results::Lifted;
+use read_first::first_line;
+use results::{Lifted, Unlifted};
 
 // The lines of the list in the output slice, or the refusal's line.
-fn put_lifted(bytes: &mut [u8], r: Lifted, out: &[u32]) -> usize
+fn put_lifted(bytes: &mut [u8], r: Result<Lifted, Unlifted>, out: &[u32]) -> usize
     requires { InputStands r out.now }
     ensures { PutBytes bytes.old 0 (lifted_bytes r out.now) bytes.new result }
 {
     match r {
-        Lifted::Whole(n, _) => list(&out[..n], bytes),
-        Lifted::Refused(x, _) => refused(number(x), bytes),
+        Ok(lifted) => list(&out[..lifted.words], bytes),
+        Err(e) => refused(u32::from(e.refusal), bytes),
     }
 }
 
@@ -57,7 +56,7 @@ pub fn put_input(
     ensures work_slice { work.new ≡ input_leaves scratch_after input.now (length func.old) (length work.old) (length out.old) work.old }
     ensures out_slice { out.new ≡ input_leaves out_after input.now (length func.old) (length work.old) (length out.old) out.old }
 {
-    let First::At(first, at) = first_line(input) else {
+    let Some((first, at)) = first_line(input) else {
         return bad_line(bytes);
     };
     put_text(bytes, &input[at..], first, func, work, out)

@@ -10,7 +10,7 @@ ghost use Rattle.print_bytes.specs.Lines.{head_bytes};
 ghost use Rattle.print_bytes.specs.Taken.{head_from, inst_size, Next};
 
 use print_bytes::{put_byte, put_bytes, put_field, put_number};
-use print_forms::{put_id_form, put_imm_form, wide, word};
+use print_forms::{put_id_form, put_imm_form, word};
 
 // `(OPCODE ATTRS TYPE RESULT`.
 fn put_head(out: &mut [u8], at: usize, opcode: u32, attrs: u32, ty: u32, res: u32) -> usize
@@ -51,8 +51,8 @@ fn put_inst(out: &mut [u8], at: usize, words: &[u32]) -> usize
 fn inst_size(words: &[u32]) -> usize
     ensures { result ≡ inst_size words.now }
 {
-    let imms = wide(word(words, 4));
-    6 + 3 * imms + wide(word(words, 5 + 3 * imms))
+    let imms = word(words, 4) as usize;
+    6 + 3 * imms + word(words, 5 + 3 * imms) as usize
 }
 
 // The place behind the instruction at a place, or the end of the words.

@@ -24,12 +24,13 @@ pub fn put_imms(out: &mut [u8], at: usize, words: &[u32], n: u32) -> usize
     ensures { PutBytes out.old at (imms_bytes (imms_from n words.now).got) out.new result }
 {
     let mut next = at;
-    let mut left = n;
-    let mut i: usize = 0;
-    while 0 < left && 2 < words.len() - i {
-        next = put_imm(out, next, words[i], words[i + 1], words[i + 2]);
-        i += 3;
-        left -= 1;
+    let mut left = words;
+    for _ in 0..n {
+        let [kind, operand, word, rest @ ..] = left else {
+            break;
+        };
+        next = put_imm(out, next, *kind, *operand, *word);
+        left = rest;
     }
     next
 }
@@ -39,10 +40,8 @@ pub fn put_ids(out: &mut [u8], at: usize, words: &[u32]) -> usize
     ensures { PutBytes out.old at (ids_bytes words.now) out.new result }
 {
     let mut next = at;
-    let mut i: usize = 0;
-    while i < words.len() {
-        next = put_field(out, next, words[i]);
-        i += 1;
+    for word in words {
+        next = put_field(out, next, *word);
     }
     next
 }

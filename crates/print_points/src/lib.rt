@@ -47,12 +47,11 @@ pub fn put_run(func: &[u32], work: &[u32], m: usize, i: usize, out: &mut [u8], a
     ensures { PutBytes out.old at (points_bytes (run_at (func_of func.now) i)) out.new result }
 {
     let mut next = at;
-    let mut more = true;
-    let mut j = i;
-    while more && j < m {
+    for j in i..m {
         next = put_point(out, next, point(func, work, m, j));
-        more = absorbs(func, work, m, j);
-        j += 1;
+        if !absorbs(func, work, m, j) {
+            break;
+        }
     }
     next
 }

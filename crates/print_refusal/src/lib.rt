@@ -9,8 +9,7 @@ ghost use Rattle.print_bytes.specs.Shown.{refused_bytes};
 ghost use Rattle.print_refusal.specs.Line.{line_of};
 
 use print_bytes::{put_byte, put_bytes, put_field, put_number};
-use refusals::{Refusal, number};
-use results::Parsed;
+use refusals::Refusal;
 
 // The line of a refusal.
 pub fn refused(n: u32, out: &mut [u8]) -> usize
@@ -25,17 +24,17 @@ pub fn refused(n: u32, out: &mut [u8]) -> usize
 pub fn bad_line(out: &mut [u8]) -> usize
     ensures { PutBytes out.old 0 (refused_bytes (refusal_number Forms)) out.new result }
 {
-    refused(number(Refusal::Forms), out)
+    refused(u32::from(Refusal::Forms), out)
 }
 
 // The bytes of the line for an answer stand in `bytes`: how many.
-pub fn put_line(bytes: &mut [u8], parsed: Parsed) -> usize
+pub fn put_line(bytes: &mut [u8], parsed: Result<(), Refusal>) -> usize
     ensures { PutBytes bytes.old 0 (line_of parsed) bytes.new result }
 {
     match parsed {
-        Parsed::Function => put_bytes(bytes, 0, b"accepted\n"),
-        Parsed::Refused(r) => {
-            let n = put_number(bytes, 0, number(r));
+        Ok(()) => put_bytes(bytes, 0, b"accepted\n"),
+        Err(r) => {
+            let n = put_number(bytes, 0, u32::from(r));
             put_byte(bytes, n, b'\n')
         }
     }

@@ -37,11 +37,7 @@ pub fn unmarked(text: &[u8], len: usize) -> &[u8]
     requires { len ≤ length text.now }
     ensures { result.now ≡ take (len - 3) text.now }
 {
-    if len < MARK {
-        return &text[..0];
-    }
-    let n = len - MARK;
-    &text[..n]
+    &text[..len.saturating_sub(MARK)]
 }
 
 // Before anything was read.
@@ -75,16 +71,14 @@ pub fn taken(piece: &[u8], text: &mut [u8], state: State) -> State
     ensures within { CountsWithin state.till (length text.new) result × (length text.new ≡ length text.old) }
     ensures rest { (result.till ≡ state.till) × IsTrue result.more }
 {
-    let from = state.from;
-    let place = cut(piece, from, state.matched);
-    let end = place.end;
-    let len = keep(text, state.len, &piece[from..end]);
+    let place = cut(piece, state.from, state.matched);
+    let len = keep(text, state.len, &piece[state.from..place.end]);
     State {
-        len: len,
+        len,
         matched: place.matched,
-        from: end,
-        till: state.till,
+        from: place.end,
         more: true,
+        ..state
     }
 }
 
@@ -94,13 +88,7 @@ pub fn rested(state: State) -> State
     ensures more { result.more ≡ state.more }
 {
     if state.matched == 4 {
-        return State {
-            len: 0,
-            matched: state.matched,
-            from: state.from,
-            till: state.till,
-            more: state.more,
-        };
+        return State { len: 0, ..state };
     }
     state
 }
@@ -115,10 +103,9 @@ pub fn refilled<R: Read>(reader: &mut R, buffer: &mut [u8], state: State) -> io:
 {
     let n = reader.read(buffer)?;
     Ok(State {
-        len: state.len,
-        matched: state.matched,
         from: 0,
         till: n,
         more: 0 < n,
+        ..state
     })
 }

@@ -1,22 +1,21 @@
 -- Document 01, 'The instruction list': 'The program `lift` reads a line `(first 10)`, the first id, then the text', as a format of the text's own
 -- kinds, and what an answer says was read. Assumes nothing.
-use Rattle.std.specs.Prelude.{◌≡◌, refl, ℕ}
-use Rattle.std.proofs.Math.Option.{Option, none, some}
+use Rattle.std.specs.Prelude.{◌≡◌, refl, ℕ, Option, None, Some}
+use Rattle.std.proofs.Math.Option as answer
+use Rattle.std.proofs.Math.Option.{none, some}
 use Rattle.lifting.specs.Bytes.{bytes}
 use Rattle.lifting.specs.Digits.{number, number_from}
 use Rattle.lifting.specs.Codec.{Codec, strip, lit, num, seq, same, view_as}
 use Rattle.lifting.specs.Grammar.{before, after_word, closed, line, field, one_codec}
-use Rattle.read_first.specs.declared.First.{First}
-use Rattle.read_first.specs.declared.First.TheVariants as first
 
 -- `(first N)` and byte 10
 unfoldable pub first_line_form : Codec ℕ
 first_line_form = line "first" one_codec
 
 -- the first id and the place where the text starts, or nothing
-abbrev pub first_answer : First → Option (ℕ × ℕ)
-first_answer (first.At n rest) = some (n, rest)
-first_answer first.Bad = none
+abbrev pub first_answer : Option (ℕ × ℕ) → answer.Option (ℕ × ℕ)
+first_answer (Some x) = some x
+first_answer None = none
 
 -- document 01's example, and a number with a leading zero
 pub first_read : first_line_form.read (bytes "(first 10)\n(func") ≡ some (10, bytes "(func")

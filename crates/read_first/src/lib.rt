@@ -7,26 +7,14 @@ ghost use Rattle.read_first.specs.Opening.{first_line_form, first_answer};
 use read_cursor::Cursor;
 use read_fields::one;
 
-// The first id and the place where the text starts.
-#[derive(Clone, Copy)]
-pub enum First {
-    At(u32, usize),
-    Bad,
-}
-
-// The line `(first N)` with which the input begins.
-pub fn first_line(input: &[u8]) -> First
+// The line `(first N)` with which the input begins: the first id and the place where the text starts.
+pub fn first_line(input: &[u8]) -> Option<(u32, usize)>
     ensures { Reads first_line_form.read input.now 0 (first_answer result) }
 {
     let start = Cursor { text: input, at: 0 };
-    let Some(a) = start.word(b"(first") else {
-        return First::Bad;
-    };
-    let Some((n, b)) = one(a) else {
-        return First::Bad;
-    };
-    let Some(c) = b.word(b"\n") else {
-        return First::Bad;
-    };
-    First::At(n, c.at)
+    let a = start.word(b"(first")?;
+    let (n, b) = one(a)?;
+    let c = b.word(b"
+")?;
+    Some((n, c.at))
 }

@@ -3,8 +3,10 @@
 --     text_known, text_decides     a text alone
 --     known_for                    by the command
 --     known_room                   where nothing is known yet there is room for more
-use Rattle.std.specs.Prelude.{◌≡◌, refl, Bool, true, false, cond, List, ◌++◌, ℕ, ◌≤◌, ◌<◌, leb, ltb, length}
+use Rattle.std.specs.Prelude as rust
+use Rattle.std.specs.Prelude.{◌≡◌, refl, Bool, true, false, not, cond, List, ◌++◌, ℕ, ◌≤◌, ◌<◌, leb, ltb, length, None, Some}
 use Rattle.std.proofs.Common.{sym, ◌∙◌, arith, true≢false, le-ltb, le-leb, leb-true, leb-false, lt-ltb, ltb-false}
+use Rattle.std.specs.Option.{is_some}
 use Rattle.std.proofs.Math.Path.{ap}
 use Rattle.std.proofs.Math.Option.{Option, none, some}
 use Rattle.std.proofs.Math.Seq.{take-append_seam}
@@ -13,8 +15,6 @@ use Rattle.lifting.specs.Answer.{parse}
 use Rattle.read_cursor.specs.Read.{Reads, rest_from}
 use Rattle.command.specs.declared.Command.{Command}
 use Rattle.command.specs.declared.Command.TheVariants.{Lift, Read, Blocks, Help, Unknown}
-use Rattle.read_first.specs.declared.First.{First}
-use Rattle.read_first.specs.declared.First.TheVariants.{At, Bad}
 use Rattle.read_first.specs.Opening.{first_line_form, first_answer}
 use Rattle.read_first.specs.Cut.{ByText, input_room, longest_line, text_room}
 use Rattle.read_first.proofs.Cut.{bad_stays, input_more, parse_cut}
@@ -85,18 +85,27 @@ module _ (input : List ℕ) where
     pub known_enough : input_room ≤ length input → true ≡ known_by input
     known_enough h = sym (known_is false true (le-ltb (length input) longest_line long) (le-leb input_room (length input) h))
 
-    module _ (few : length input < input_room) (r : First) (reads : Reads first_line_form.read input 0 (first_answer r)) where
-      by_line : {x : First} → r ≡ x → is_bad (rest_from input (first_answer x)) ≡ known_by input
+    module _ (few : length input < input_room) (r : rust.Option (ℕ × ℕ)) (reads : Reads first_line_form.read input 0 (first_answer r)) where
+      by_line : {x : rust.Option (ℕ × ℕ)} → r ≡ x → is_bad (rest_from input (first_answer x)) ≡ known_by input
       by_line e =
           sym
           (known_is false false (le-ltb (length input) longest_line long) (lt-leb input_room (length input) few)
-          ∙ ap is_bad (reads.is ∙ ap (λ (y : First). rest_from input (first_answer y)) e))
+          ∙ ap is_bad (reads.is ∙ ap (λ (y : rust.Option (ℕ × ℕ)). rest_from input (first_answer y)) e))
 
-      pub known_bad : r ≡ Bad → true ≡ known_by input
+      pub known_bad : r ≡ None → true ≡ known_by input
       known_bad = by_line
 
-      pub known_good : {n k : ℕ} → r ≡ At n k → false ≡ known_by input
+      pub known_good : {n k : ℕ} → r ≡ Some (n, k) → false ≡ known_by input
       known_good = by_line
+
+      pub known_line : (bad : Bool) → is_some r ≡ not bad → bad ≡ known_by input
+      known_line bad e = go r bad refl e
+        where
+          go : (x : rust.Option (ℕ × ℕ)) (b : Bool) → r ≡ x → is_some x ≡ not b → b ≡ known_by input
+          go None true q f = known_bad q
+          go None false q f = absurd (true≢false (sym f))
+          go (Some (n, k)) true q f = absurd (true≢false f)
+          go (Some (n, k)) false q f = known_good q
 
 -- ---- what is not known yet has room for more
 

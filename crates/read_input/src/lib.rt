@@ -9,7 +9,7 @@ ghost use Rattle.read_input.specs.Counts.{IsPrefixLen};
 ghost use Rattle.read_input.specs.Known.{known_by, known_for, text_known};
 
 use command::Command;
-use read_first::{First, first_line};
+use read_first::first_line;
 use refusals::limits::MAX_BYTES;
 use std::io;
 use std::io::Read;
@@ -32,23 +32,19 @@ fn input_known(input: &[u8]) -> bool
     if INPUT <= input.len() {
         return true;
     }
-    let First::At(_, _) = first_line(input) else {
-        return true;
-    };
-    false
+    first_line(input).is_none()
 }
 
 // Whether those of a text alone decide.
+#[tactic(auto, unfolding(crate::specs::Known::text_known))]
 fn text_known(text: &[u8]) -> bool
     ensures { result ≡ text_known text.now }
 {
-    if text.len() < TEXT {
-        return false;
-    }
-    true
+    TEXT <= text.len()
 }
 
 // Whether the bytes so far decide what a command prints.
+#[tactic(auto, unfolding(crate::specs::Known::known_for))]
 pub fn known(command: Command, input: &[u8]) -> bool
     ensures { result ≡ known_for command input.now }
 {

@@ -8,10 +8,10 @@ use lib.Dec.{leb}
 use borrow.Author.Tests.{le-leb, lt-leb}
 use Rattle.lifting.specs.Limits.{func_words, work_words}
 use Rattle.func.specs.Whole.{Clear}
-use Rattle.results.specs.declared.Parsed.{Parsed}
+use Rattle.read_text.specs.Whole.{TextIs}
 use Rattle.work.specs.Layout.{entered_at, entered_end}
 use Rattle.work.specs.Aside.{Cleared}
-use Rattle.reader.specs.Parse.{Unentered, enough_test, kept_after}
+use Rattle.reader.specs.Parse.{Unentered, enough_test}
 
 -- the two tests of lengths
 pub enough_no : {n : ℕ} (m : ℕ) → n < func_words → false ≡ enough_test n m
@@ -26,6 +26,3 @@ clear_as e c = subst Clear (sym e) c
 -- a table that was cleared
 pub none_entered : {w u : List ℕ} → Cleared entered_at entered_end w u → Unentered u
 none_entered k = record { word = λ i h. k.blank i (omega arith) h }
-
-pub kept_told : (w : List ℕ) {x : List ℕ} {r s : Parsed} → r ≡ s → x ≡ kept_after s w → x ≡ kept_after r w
-kept_told w {x} e q = q ∙ ap (λ (r : Parsed). kept_after r w) (sym e)

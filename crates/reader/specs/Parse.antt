@@ -1,7 +1,8 @@
 -- What the reader answers and leaves, by lifting's `parse`: the parsed function or the number of the first refusal. Assumes nothing.
 --     answer_of                  the reader's answer as that of `parse`
 --     func_after, work_after      the scratch slices at the end
-use Rattle.std.specs.Prelude.{◌≡◌, Bool, false, ◌&&◌, List, ℕ, ◌<◌, leb, eqb, length, get_or, replicate}
+use Rattle.std.specs.Prelude.{◌≡◌, Bool, false, ◌&&◌, List, ℕ, ◌<◌, leb, eqb, length, get_or, replicate, Result, Ok, Err}
+use Rattle.refusals.specs.declared.Refusal.{Refusal}
 use Rattle.refusals.specs.declared.Refusal.TheVariants.{Scratch}
 use Rattle.refusals.specs.Numbers.{refusal_number}
 use Rattle.lifting.specs.Limits.{func_words, work_words, max_regions}
@@ -11,13 +12,11 @@ use Rattle.lifting.specs.Answer.{parsed, denied, checked, parse, zeros_unless8}
 use Rattle.func.specs.Decode.{func_of}
 use Rattle.func.specs.Keep.{keep_func}
 use Rattle.func.specs.Whole.{empty_pools}
-use Rattle.results.specs.declared.Parsed.{Parsed}
-use Rattle.results.specs.declared.Parsed.TheVariants.{Function, Refused}
 
 -- the function is the one that stands in the function slice
-abbrev pub answer_of : Parsed → List ℕ → answer.Parsed
-answer_of Function w = parsed (func_of w)
-answer_of (Refused x) w = denied (refusal_number x)
+abbrev pub answer_of : Result Unit Refusal → List ℕ → answer.Parsed
+answer_of (Ok u) w = parsed (func_of w)
+answer_of (Err x) w = denied (refusal_number x)
 
 abbrev pub func_after : answer.Parsed → List ℕ → List ℕ
 func_after (parsed F) w = keep_func F (empty_pools w)
@@ -35,9 +34,9 @@ abbrev pub enough_test : ℕ → ℕ → Bool
 enough_test func work = leb func_words func && leb work_words work
 
 -- the function slice is cleared after a refusal
-abbrev pub kept_after : Parsed → List ℕ → List ℕ
-kept_after Function w = w
-kept_after (Refused x) w = replicate (length w) 0
+abbrev pub kept_after : Result Unit Refusal → List ℕ → List ℕ
+kept_after (Ok u) w = w
+kept_after (Err x) w = replicate (length w) 0
 
 -- what the text was judged to be: its function stands in the slice, stored from the words w on
 pub record Holds (text : List ℕ) (n m : ℕ) (w v : List ℕ) : Type 0 where
@@ -46,6 +45,6 @@ pub record Holds (text : List ℕ) (n m : ℕ) (w v : List ℕ) : Type 0 where
   pub passed : checked F ≡ parsed F
   pub func : v ≡ keep_func F w
 
-abbrev pub Judges : Parsed → List ℕ → ℕ → ℕ → List ℕ → List ℕ → Type 0
-Judges Function text n m w v = Holds text n m w v
-Judges (Refused x) text n m w v = (parse text n m ≡ denied (refusal_number x)) × (eqb (refusal_number x) (refusal_number Scratch) ≡ false)
+abbrev pub Judges : Result Unit Refusal → List ℕ → ℕ → ℕ → List ℕ → List ℕ → Type 0
+Judges (Ok u) text n m w v = Holds text n m w v
+Judges (Err x) text n m w v = (parse text n m ≡ denied (refusal_number x)) × (eqb (refusal_number x) (refusal_number Scratch) ≡ false)

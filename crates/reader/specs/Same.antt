@@ -6,11 +6,12 @@
 --     accepted, work_cleared          what a caller has where the function stands in its slice
 use Rattle.std.proofs.Math.Path.{◌≡◌, refl, ap, subst}
 use Rattle.std.proofs.Common.{sym, ◌∙◌, arith, le-leb, leb-true}
-use Rattle.std.specs.Prelude.{Bool, false, ◌&&◌, List, ℕ, ◌≤◌, ◌<◌, leb, eqb, length, replicate}
+use Rattle.std.specs.Prelude.{Bool, false, ◌&&◌, List, ℕ, ◌≤◌, ◌<◌, leb, eqb, length, replicate, Result, Ok, Err}
 use Rattle.std.proofs.Math.Bool.{true}
 use Rattle.std.proofs.Math.Option.{Option, none, some}
 use Rattle.std.proofs.lemmas.List.{length-replicate}
 use Rattle.std.proofs.lemmas.Bool.{lt-leb}
+use Rattle.refusals.specs.declared.Refusal.{Refusal}
 use Rattle.refusals.specs.declared.Refusal.TheVariants.{Forms, Long, Scratch}
 use Rattle.refusals.specs.Numbers.{refusal_number}
 use Rattle.general_laws.specs.Lists.{every, gather}
@@ -34,8 +35,6 @@ use Rattle.func.specs.Whole.{Clear, empty_pools}
 use Rattle.func.proofs.Whole.{clear_empty}
 use Rattle.read_ctrls.specs.Same.{opcodes_judged, edges_judged}
 use Rattle.read_text.specs.Whole.{Text}
-use Rattle.results.specs.declared.Parsed.{Parsed}
-use Rattle.results.specs.declared.Parsed.TheVariants.{Function, Refused}
 use Rattle.check_text.specs.Test.{judge, few_test, checks_test, ChecksSafe}
 use Rattle.check_text.specs.Same.{verdict, Stands}
 use Rattle.check_text.proofs.Same.{checks_safe, checks_same, passes, stands_back}
@@ -96,9 +95,9 @@ module _ (text : List ℕ) (n m : ℕ) (a : func_words ≤ n) (b : work_words �
     checked_is F e = formed_is ∙ ap formed e
 
 -- the refusals of a text that is of the forms are not 8
-abbrev eight : Parsed → Bool
-eight Function = false
-eight (Refused x) = eqb (refusal_number x) (refusal_number Scratch)
+abbrev eight : Result Unit Refusal → Bool
+eight (Ok u) = false
+eight (Err x) = eqb (refusal_number x) (refusal_number Scratch)
 
 not_eight : (u v w x y z : Bool) → eight (judge u v w x y z) ≡ false
 not_eight false v w x y z = refl
@@ -123,19 +122,19 @@ module _ (text : List ℕ) {f w v : List ℕ} (a : func_words ≤ length f) (b :
   same : verdict (checks_test v opcodes edges) t.F ≡ checked t.F
   same = subst (λ (v : List ℕ). verdict (checks_test v opcodes edges) t.F ≡ checked t.F) t.func (checks_same t.F c opcodes opcodes_fit edges edges_fit_law)
 
-  pub judged : (r : Parsed) → r ≡ checks_test v opcodes edges → Judges r text (length f) (length w) f v
-  judged Function e =
-      let k : parsed t.F ≡ checked t.F = ap (λ (r : Parsed). verdict r t.F) e ∙ same in
+  pub judged : (r : Result Unit Refusal) → r ≡ checks_test v opcodes edges → Judges r text (length f) (length w) f v
+  judged (Ok o) e =
+      let k : parsed t.F ≡ checked t.F = ap (λ (r : Result Unit Refusal). verdict r t.F) e ∙ same in
       record { F = t.F; is = checked_is text (length f) (length w) a b h t.F t.read_is ∙ sym k; passed = sym k; func = sym t.func }
-  judged (Refused x) e =
-      let k : denied (refusal_number x) ≡ checked t.F = ap (λ (r : Parsed). verdict r t.F) e ∙ same in
+  judged (Err x) e =
+      let k : denied (refusal_number x) ≡ checked t.F = ap (λ (r : Result Unit Refusal). verdict r t.F) e ∙ same in
       (checked_is text (length f) (length w) a b h t.F t.read_is ∙ sym k, ap eight e ∙ test)
     where
       test : eight (checks_test v opcodes edges) ≡ false
       test = unfold checks_test in not_eight (limits_test v) (references_test v && opcodes) (tree_test v) (counts_test v && edges) (few_test v && control_fits (func_of v)) (targets_differ (func_of v))
 
 -- a function that was judged to stand there does, and is the text's
-module _ (text f : List ℕ) (m : ℕ) {v : List ℕ} (size : func_words ≤ length f) (j : Judges Function text (length f) m (empty_pools f) v) where
+module _ (text f : List ℕ) (m : ℕ) {v : List ℕ} (size : func_words ≤ length f) (j : Judges (Ok tt) text (length f) m (empty_pools f) v) where
   stands : Stands j.F (keep_func j.F (empty_pools f))
   stands = stands_back j.F (clear_empty f (omega arith)) j.passed
 
@@ -150,18 +149,18 @@ module _ (text f : List ℕ) (m : ℕ) {v : List ℕ} (size : func_words ≤ len
 
 -- the answer and the slices at the end, from what was judged
 module _ (text f w : List ℕ) where
-  pub judged_at : {n m : ℕ} {x : List ℕ} (r : Parsed) (v : List ℕ) → n ≡ length f → m ≡ length w → x ≡ empty_pools f → Judges r text n m x v → Judges r text (length f) (length w) (empty_pools f) v
+  pub judged_at : {n m : ℕ} {x : List ℕ} (r : Result Unit Refusal) (v : List ℕ) → n ≡ length f → m ≡ length w → x ≡ empty_pools f → Judges r text n m x v → Judges r text (length f) (length w) (empty_pools f) v
   judged_at {n} {m} r v e g q j =
       subst (λ (k : ℕ). Judges r text (length f) k (empty_pools f) v) g
       (subst (λ (k : ℕ). Judges r text k m (empty_pools f) v) e (subst (λ (x : List ℕ). Judges r text n m x v) q j))
 
-  pub answered : func_words ≤ length f → (r : Parsed) (v u x : List ℕ) → Judges r text (length f) (length w) (empty_pools f) v → length v ≡ length f → u ≡ kept_after r v → x ≡ replicate (length w) 0
+  pub answered : func_words ≤ length f → (r : Result Unit Refusal) (v u x : List ℕ) → Judges r text (length f) (length w) (empty_pools f) v → length v ≡ length f → u ≡ kept_after r v → x ≡ replicate (length w) 0
       → (answer_of r u ≡ parse text (length f) (length w)) × ((u ≡ func_after (parse text (length f) (length w)) f) × (x ≡ work_after (parse text (length f) (length w)) w))
-  answered size Function v u x j l q z = (
+  answered size (Ok o) v u x j l q z = (
     ap (λ (y : List ℕ). parsed (func_of y)) q ∙ parsed_judged text f (length w) size j,
     (q ∙ j.func ∙ sym (ap (λ (p : answer.Parsed). func_after p f) j.is), z ∙ sym (ap (λ (p : answer.Parsed). work_after p w) j.is)),
   )
-  answered size (Refused y) v u x j l q z = (
+  answered size (Err y) v u x j l q z = (
     sym j.0,
     (
       q ∙ ap (λ (k : ℕ). replicate k 0) l ∙ sym (ap (λ (p : answer.Parsed). func_after p f) j.0 ∙ ap (λ (b : Bool). zeros_unless8 b f) j.1),
@@ -196,13 +195,13 @@ parsed_checked text n m F e = by_scratch_law (leb func_words n) (leb work_words 
     by_scratch_law false b h k q = absurd (let z : ◌≡◌ {A = ℕ} 0 1 = cc in omega arith)
 
 -- what the promise gives where the answer is that the function stands in its slice
-pub accepted : (text f v : List ℕ) (m : ℕ) → answer_of Function v ≡ parse text (length f) m → v ≡ func_after (parse text (length f) m) f → Stands (func_of v) v
+pub accepted : (text f v : List ℕ) (m : ℕ) → answer_of (Ok tt) v ≡ parse text (length f) m → v ≡ func_after (parse text (length f) m) f → Stands (func_of v) v
 accepted text f v m e q =
     let k = parsed_checked text (length f) m (func_of v) (sym e) in
     subst (λ (w : List ℕ). Stands (func_of v) w) (sym (q ∙ ap (λ (p : answer.Parsed). func_after p f) (sym e))) (stands_back (func_of v) (clear_empty f (omega (arith, k.0))) k.2)
 
 -- and then the work slice is clear, and long enough
-pub work_cleared : (text f v w u : List ℕ) → answer_of Function v ≡ parse text (length f) (length w) → u ≡ work_after (parse text (length f) (length w)) w
+pub work_cleared : (text f v w u : List ℕ) → answer_of (Ok tt) v ≡ parse text (length f) (length w) → u ≡ work_after (parse text (length f) (length w)) w
     → (work_need ≤ length u) × (u ≡ replicate (length u) 0)
 work_cleared text f v w u e q =
     let k = parsed_checked text (length f) (length w) (func_of v) (sym e) in

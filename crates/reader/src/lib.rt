@@ -12,7 +12,6 @@ use func_pools::empty;
 use read_text::read_text;
 use refusals::Refusal;
 use refusals::limits::{FUNC_WORDS, MAX_BYTES, WORK_WORDS};
-use results::Parsed;
 use work::{ENTERED, ENTERED_END, clear, clear_all};
 
 // Both scratch slices are long enough.
@@ -26,7 +25,7 @@ pub fn enough(func: &[u32], work: &[u32]) -> bool
 }
 
 // The text, judged where every pool is empty and no region has an entry: what stands in the function slice then goes by the answer.
-fn judge_text(text: &[u8], func: &mut [u32], work: &mut [u32]) -> Parsed
+fn judge_text(text: &[u8], func: &mut [u32], work: &mut [u32]) -> Result<(), Refusal>
     requires func_words_in_bounds { (func_words ≤ length func.old) × (work_words ≤ length work.old) }
     requires clear { Clear func.old }
     requires unentered { Unentered work.old }
@@ -35,17 +34,17 @@ fn judge_text(text: &[u8], func: &mut [u32], work: &mut [u32]) -> Parsed
     ensures work_len_unchanged { length work.new ≡ length work.old }
 {
     if MAX_BYTES < text.len() {
-        return Parsed::Refused(Refusal::Long);
+        return Err(Refusal::Long);
     }
     let Some(fit) = read_text(func, work, text) else {
-        return Parsed::Refused(Refusal::Forms);
+        return Err(Refusal::Forms);
     };
     checks(func, work, fit.opcodes, fit.edges)
 }
 
 // The text, judged over whatever the slices held: only the pools' counts and the table of entries are cleared before. The work slice keeps what the
 // checks wrote, and after a refusal the function slice what was read.
-pub fn judge(text: &[u8], func: &mut [u32], work: &mut [u32]) -> Parsed
+pub fn judge(text: &[u8], func: &mut [u32], work: &mut [u32]) -> Result<(), Refusal>
     requires { (func_words ≤ length func.old) × (work_words ≤ length work.old) }
     ensures judges { Judges result text.now (length func.old) (length work.old) (empty_pools func.old) func.new }
     ensures func_len_unchanged { length func.new ≡ length func.old }
@@ -57,24 +56,23 @@ pub fn judge(text: &[u8], func: &mut [u32], work: &mut [u32]) -> Parsed
 }
 
 // After a refusal the function slice is cleared.
-fn leave(func: &mut [u32], r: Parsed)
+fn leave(func: &mut [u32], r: Result<(), Refusal>)
     ensures { func.new ≡ kept_after r func.old }
 {
-    match r {
-        Parsed::Function => {}
-        Parsed::Refused(_) => clear_all(func),
+    if r.is_err() {
+        clear_all(func);
     }
 }
 
 // The function of the text, in the function slice, or the first refusal of 8, 1 to 7 and 13 that holds. The work slice ends as zeros, and the function
 // slice too after a refusal; after 8 both keep their words. Beside its function's tables the function slice keeps what it held.
-pub fn parse(text: &[u8], func: &mut [u32], work: &mut [u32]) -> Parsed
+pub fn parse(text: &[u8], func: &mut [u32], work: &mut [u32]) -> Result<(), Refusal>
     ensures func_after { answer_of result func.new ≡ parse text.now (length func.old) (length work.old) }
     ensures func_after_2 { func.new ≡ func_after (parse text.now (length func.old) (length work.old)) func.old }
     ensures work_after { work.new ≡ work_after (parse text.now (length func.old) (length work.old)) work.old }
 {
     if !enough(func, work) {
-        return Parsed::Refused(Refusal::Scratch);
+        return Err(Refusal::Scratch);
     }
     let r = judge(text, func, work);
     leave(func, r);

@@ -6,51 +6,40 @@ pub mod limits; // limits.rt: the limits, as constants
 ghost use Rattle.std.specs.Prelude.{◌≡◌};
 ghost use Rattle.refusals.specs.Numbers.{refusal_number};
 
-// Document 01's refusals 1 to 11, and document 02's 13.
-#[derive(Clone, Copy)]
+// Document 01's refusals 1 to 11, and document 02's 13, each by its number there.
+#[derive(Clone, Copy, PartialEq, Eq)]
 pub enum Refusal {
     // a text over 32,768 bytes
-    Long,
+    Long = 1,
     // not of the forms
-    Forms,
+    Forms = 2,
     // too many parts
-    Limits,
+    Limits = 3,
     // a reference that names nothing, or an id or an opcode that does not fit
-    References,
+    References = 4,
     // no tree
-    Tree,
+    Tree = 5,
     // unequal counts
-    Counts,
+    Counts = 6,
     // ctrl lines
-    Control,
+    Control = 7,
     // a scratch slice that is too short
-    Scratch,
+    Scratch = 8,
     // a first id that does not fit, or ids that would be too high
-    Ids,
+    Ids = 9,
     // a value that nothing sets
-    Values,
+    Values = 10,
     // an output slice that is shorter than the list
-    Output,
+    Output = 11,
     // a branch by `bool` to one region twice
-    Targets,
+    Targets = 13,
 }
 
 // The number in documents 01 and 02.
-pub fn number(r: Refusal) -> u32
-    ensures { result ≡ refusal_number r }
-{
-    match r {
-        Refusal::Long => 1,
-        Refusal::Forms => 2,
-        Refusal::Limits => 3,
-        Refusal::References => 4,
-        Refusal::Tree => 5,
-        Refusal::Counts => 6,
-        Refusal::Control => 7,
-        Refusal::Scratch => 8,
-        Refusal::Ids => 9,
-        Refusal::Values => 10,
-        Refusal::Output => 11,
-        Refusal::Targets => 13,
+impl From<Refusal> for u32 {
+    ghost from_gives = { λ r n. n ≡ refusal_number r };
+
+    fn from(r: Refusal) -> u32 {
+        r as u32
     }
 }

@@ -2,70 +2,70 @@
 #![tactic(auto)]
 
 ghost use Rattle.std.specs.Prelude.{◌≡◌};
-ghost use Rattle.results.specs.Told.{lift_number, next_after, read_number, refusal_words, words_after};
+ghost use Rattle.results.specs.Told.{lift_number, next_after, no_list, read_number, words_after};
 
-use refusals::{Refusal, number};
+use refusals::Refusal;
 
-// The function stands in the function slice, or a refusal.
+// A list: its count of words, and the next free id.
 #[derive(Clone, Copy)]
-pub enum Parsed {
-    Function,
-    Refused(Refusal),
+pub struct Lifted {
+    pub words: usize,
+    pub next: u32,
 }
 
-// The count of words and the next free id; or a refusal and, after 11, how many words the list has.
+// Why there is no list, and after 11 how many words it has.
 #[derive(Clone, Copy)]
-pub enum Lifted {
-    Whole(usize, u32),
-    Refused(Refusal, usize),
+pub struct Unlifted {
+    pub refusal: Refusal,
+    pub wanted: usize,
+}
+
+// Any other refusal wants no words.
+impl From<Refusal> for Unlifted {
+    ghost from_gives = { λ r e. e ≡ no_list r };
+
+    fn from(refusal: Refusal) -> Unlifted {
+        Unlifted { refusal, wanted: 0 }
+    }
 }
 
 // 0 for a text that is read, else the refusal's number.
-pub fn read_number(r: Parsed) -> u32
+pub fn read_number(r: Result<(), Refusal>) -> u32
     ensures { result ≡ read_number r }
 {
     match r {
-        Parsed::Function => 0,
-        Parsed::Refused(x) => number(x),
+        Ok(()) => 0,
+        Err(x) => u32::from(x),
     }
 }
 
 // 0 for a list, else the refusal's number.
-pub fn lift_number(r: Lifted) -> u32
+pub fn lift_number(r: Result<Lifted, Unlifted>) -> u32
     ensures { result ≡ lift_number r }
 {
     match r {
-        Lifted::Whole(_, _) => 0,
-        Lifted::Refused(x, _) => number(x),
+        Ok(_) => 0,
+        Err(e) => u32::from(e.refusal),
     }
 }
 
-// What `words` holds after a refusal: 11 tells how many words are wanted.
-fn words_told(r: Refusal, wanted: usize, old: usize) -> usize
-    ensures { result ≡ refusal_words r wanted old }
-{
-    if number(r) == number(Refusal::Output) {
-        return wanted;
-    }
-    old
-}
-
-// What `words` holds after a call, where it held `old` before.
-pub fn words_after(r: Lifted, old: usize) -> usize
+// What `words` holds after a call, where it held `old` before: a list's count, or after 11 how many words are wanted.
+pub fn words_after(r: Result<Lifted, Unlifted>, old: usize) -> usize
     ensures { result ≡ words_after r old }
 {
     match r {
-        Lifted::Whole(n, _) => n,
-        Lifted::Refused(x, n) => words_told(x, n, old),
+        Ok(list) => list.words,
+        Err(e) if e.refusal == Refusal::Output => e.wanted,
+        Err(_) => old,
     }
 }
 
 // What `next` holds then: a refusal leaves it as it was.
-pub fn next_after(r: Lifted, old: u32) -> u32
+pub fn next_after(r: Result<Lifted, Unlifted>, old: u32) -> u32
     ensures { result ≡ next_after r old }
 {
     match r {
-        Lifted::Whole(_, k) => k,
-        Lifted::Refused(_, _) => old,
+        Ok(list) => list.next,
+        Err(_) => old,
     }
 }

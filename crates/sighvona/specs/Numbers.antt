@@ -3,15 +3,13 @@
 --     read_to, read_of, read_leaves       of a text that is only read
 --     version                          of the library
 --     numbers, read_number_law             by what the entry and the reader answer
-use Rattle.std.specs.Prelude.{◌≡◌, refl, Bool, true, false, List, ℕ, ◌+◌, ◌*◌, eqb, length, replicate}
+use Rattle.std.specs.Prelude.{◌≡◌, refl, Bool, true, false, List, ℕ, ◌+◌, ◌*◌, eqb, length, replicate, Result, Ok, Err}
 use Rattle.std.proofs.Common.{ap, ◌∙◌, arith, eqb-true}
 use Rattle.refusals.specs.declared.Refusal.{Refusal}
 use Rattle.refusals.specs.declared.Refusal.TheVariants.{Output, Scratch}
 use Rattle.refusals.specs.Numbers.{refusal_number}
-use Rattle.results.specs.declared.Parsed as results
-use Rattle.results.specs.declared.Parsed.TheVariants as reading
 use Rattle.results.specs.declared.Lifted.{Lifted}
-use Rattle.results.specs.declared.Lifted.TheVariants.{Refused, Whole}
+use Rattle.results.specs.declared.Unlifted.{Unlifted}
 use Rattle.results.specs.Told.{lift_number, next_after, read_number, refusal_words, wanted_if11, words_after}
 use Rattle.lifting.specs.Answer.{Answer, Parsed, denied, listed, parse, parsed, refused, zeros_unless8}
 use Rattle.reader.specs.Parse.{answer_of}
@@ -56,28 +54,28 @@ version = 0 * 65536 + 6 * 256 + 0
 
 -- ---- by what the entry and the reader answer
 
-pub record Crosses (a : Answer) (r : Lifted) (wanted words next : ℕ) : Type 0 where
+pub record Crosses (a : Answer) (r : Result Lifted Unlifted) (wanted words next : ℕ) : Type 0 where
   pub refusal : lift_number r ≡ refusal_of a
   pub count : words_after r words ≡ words_or a wanted words
   pub free : next_after r next ≡ next_or a next
 
 -- only refusal 11 has a count
-refusal_words_law : (r : Refusal) (told wanted old : ℕ) → Wants wanted (Refused r told) → refusal_words r told old ≡ refusal_words r wanted old
+refusal_words_law : (r : Refusal) (told wanted old : ℕ) → (refusal_number r ≡ refusal_number Output → told ≡ wanted) → refusal_words r told old ≡ refusal_words r wanted old
 refusal_words_law r told wanted old h = go (eqb (refusal_number r) (refusal_number Output)) refl
   where
     go : (b : Bool) → eqb (refusal_number r) (refusal_number Output) ≡ b → wanted_if11 b told old ≡ wanted_if11 b wanted old
     go true e = h (eqb-true (refusal_number r) (refusal_number Output) e)
     go false e = refl
 
-pub numbers : (a : Answer) (r : Lifted) (wanted words next : ℕ) → told r ≡ outcome a → Wants wanted r → Crosses a r wanted words next
-numbers (listed ws j) (Whole n k) wanted words next e h = record { refusal = refl; count = cc; free = cc }
-numbers (listed ws j) (Refused r n) wanted words next e h = absurd (let z : ◌≡◌ {A = ℕ} 0 1 = cc in omega arith)
-numbers (refused j) (Whole n k) wanted words next e h = absurd (let z : ◌≡◌ {A = ℕ} 0 1 = cc in omega arith)
-numbers (refused j) (Refused r n) wanted words next e h =
-    let is : refusal_number r ≡ j = cc in
-    record { refusal = is; count = refusal_words_law r n wanted words h ∙ ap (λ (i : ℕ). wanted_if11 (eqb i (refusal_number Output)) wanted words) is; free = refl }
+pub numbers : (a : Answer) (r : Result Lifted Unlifted) (wanted words next : ℕ) → told r ≡ outcome a → Wants wanted r → Crosses a r wanted words next
+numbers (listed ws j) (Ok l) wanted words next e h = record { refusal = refl; count = cc; free = cc }
+numbers (listed ws j) (Err f) wanted words next e h = absurd (let z : ◌≡◌ {A = ℕ} 0 1 = cc in omega arith)
+numbers (refused j) (Ok l) wanted words next e h = absurd (let z : ◌≡◌ {A = ℕ} 0 1 = cc in omega arith)
+numbers (refused j) (Err f) wanted words next e h =
+    let is : refusal_number f.refusal ≡ j = cc in
+    record { refusal = is; count = refusal_words_law f.refusal f.wanted wanted words h ∙ ap (λ (i : ℕ). wanted_if11 (eqb i (refusal_number Output)) wanted words) is; free = refl }
 
 -- the function slice holds the function of a text that is read
-pub read_number_law : (r : results.Parsed) (func : List ℕ) → read_number r ≡ read_of (answer_of r func)
-read_number_law reading.Function func = refl
-read_number_law (reading.Refused x) func = refl
+pub read_number_law : (r : Result Unit Refusal) (func : List ℕ) → read_number r ≡ read_of (answer_of r func)
+read_number_law (Ok u) func = refl
+read_number_law (Err x) func = refl

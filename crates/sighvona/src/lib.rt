@@ -8,7 +8,7 @@ ghost use Rattle.lifter.specs.Entry.{answer_to, wanted_to};
 ghost use Rattle.sighvona.specs.Numbers.{next_or, read_leaves, read_of, read_to, refusal_of, version, words_or};
 
 use lifter::lift_function;
-use results::{Parsed, lift_number, next_after, read_number, words_after};
+use results::{lift_number, next_after, read_number, words_after};
 use work::clear_all;
 
 // Lifts a text: 0, with the list in `out`, its count of words and the next free id; or the number of the refusal. Refusal 11 gives in `words` how many
@@ -44,7 +44,7 @@ pub extern "C" fn sighvona_read(text: &[u8], func: &mut [u32], work: &mut [u32])
     ensures work_slice { work.new ≡ read_leaves (read_to text.now func.old work.old) work.old }
 {
     let r = reader::parse(text, func, work);
-    let Parsed::Refused(_) = r else {
+    let Err(_) = r else {
         clear_all(func);
         return read_number(r);
     };

@@ -75,17 +75,12 @@ pub fn clear(work: &mut [u32], from: usize, to: usize)
     ensures cleared { Cleared from to work.old work.new }
     ensures work_len_unchanged { length work.new ≡ length work.old }
 {
-    let mut i = from;
-    while i < to {
-        work[i] = 0;
-        i += 1;
-    }
+    work[from..to].fill(0);
 }
 
 // Every word of a lent slice is 0.
 pub fn clear_all(words: &mut [u32])
     ensures { words.new ≡ replicate (length words.old) 0 }
 {
-    let n = words.len();
-    clear(words, 0, n);
+    words.fill(0);
 }

@@ -20,7 +20,7 @@ returns-then-counted-ne0 c =
     let n = length c.args.out.now in
     let L = list_of F c.args.first in
     let g : n * 4 < 9223372036854775808 = c.well_formed.1.1.0.1 in
-    record { gives = gives_values F c.args.first n c.args.out.now (missing_any F c.args.first c.requires.over.ready.stands.passes c.requires.first_value c.put_list-counted.ensures c.if-counted-ne0.true); wanted = wants_not Values 0 _ refl }
+    record { gives = gives_values F c.args.first n c.args.out.now (missing_any F c.args.first c.requires.over.ready.stands.passes c.requires.first_value c.put_list-counted.ensures c.if-counted-ne0.true) c.from.ensures; wanted = wants_not Values _ c.from.ensures refl }
 
 pub returns-then-out-counted : goal.returns-then-out-counted
 returns-then-out-counted c =

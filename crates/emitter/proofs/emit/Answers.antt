@@ -21,12 +21,12 @@ fits_as e f = ap (λ (i : ℕ). leb i (suc highest_id)) (sym e) ∙ f
 pub returns-then-not-first_fits : goal.returns-then-not-first_fits
 returns-then-not-first_fits c =
     let F = func_of c.args.func.now in
-    record { gives = gives_ids F c.args.first (length c.args.out.now) c.args.out.now (ids_low F c.args.first (sym c.first_fits.ensures ∙ not-true _ c.if-not-first_fits.true-raw)); work_len_unchanged = refl; wanted = wants_not Ids 0 _ refl }
+    record { gives = gives_ids F c.args.first (length c.args.out.now) c.args.out.now (ids_low F c.args.first (sym c.first_fits.ensures ∙ not-true _ c.if-not-first_fits.true-raw)) c.from.ensures; work_len_unchanged = refl; wanted = wants_not Ids _ c.from.ensures refl }
 
 pub returns-then-not-id_fits : goal.returns-then-not-id_fits
 returns-then-not-id_fits c =
     let F = func_of c.args.func.now in
-    record { gives = gives_ids F c.args.first (length c.args.out.now) c.args.out.now (ids_high F c.args.first (sym c.id_fits.ensures ∙ not-true _ c.if-not-id_fits.true-raw)); work_len_unchanged = refl; wanted = wants_not Ids 0 _ refl }
+    record { gives = gives_ids F c.args.first (length c.args.out.now) c.args.out.now (ids_high F c.args.first (sym c.id_fits.ensures ∙ not-true _ c.if-not-id_fits.true-raw)) c.from-then-not-id_fits.ensures; work_len_unchanged = refl; wanted = wants_not Ids _ c.from-then-not-id_fits.ensures refl }
 
 pub number-next-requires : goal.number-next-requires
 number-next-requires c = record { laid = c.lay-m.ensures.laid; first_le_highest_id = leb-true _ highest_id (sym c.id_fits.ensures ∙ not-false _ c.if-not-id_fits.false-raw) }
@@ -34,7 +34,7 @@ number-next-requires c = record { laid = c.lay-m.ensures.laid; first_le_highest_
 pub returns-then-not-next_fits : goal.returns-then-not-next_fits
 returns-then-not-next_fits c =
     let F = func_of c.args.func.now in
-    record { gives = gives_ids F c.args.first (length c.args.out.now) c.args.out.now (ids_over F c.args.first (fits_as c.number-next.ensures.value (sym c.next_fits.ensures ∙ not-true _ c.if-not-next_fits.true-raw))); work_len_unchanged = c.number-next.ensures.work_len_unchanged ∙ c.lay-m.ensures.work_len_unchanged; wanted = wants_not Ids 0 _ refl }
+    record { gives = gives_ids F c.args.first (length c.args.out.now) c.args.out.now (ids_over F c.args.first (fits_as c.number-next.ensures.value (sym c.next_fits.ensures ∙ not-true _ c.if-not-next_fits.true-raw))) c.from-then-not-next_fits.ensures; work_len_unchanged = c.number-next.ensures.work_len_unchanged ∙ c.lay-m.ensures.work_len_unchanged; wanted = wants_not Ids _ c.from-then-not-next_fits.ensures refl }
 
 pub link-requires : goal.link-requires
 link-requires c = record { laid = laid_kept c.lay-m.ensures.laid (λ x l h. c.number-next.ensures.aside.before x h) c.number-next.ensures.work_len_unchanged; stands = c.requires.stands }

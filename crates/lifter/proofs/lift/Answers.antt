@@ -1,34 +1,66 @@
 -- A text that the reader denies is refused with its number; of any other the function stands in its slice (`stands_judged`), and the answer is the one
 -- of those tables (`tabled`).
-use mathlib.Core.Path.{sym, ap, subst, ◌∙◌}
+use mathlib.Core.Path.{◌≡◌, sym, ap, subst, ◌∙◌}
+use mathlib.Core.List.{List}
 use Prim.Native.Nat.{ℕ}
-use native.Mathlib.Omega.{arith}
 use lib.ListN.{length}
+use Rattle.std.specs.Prelude.{Result, Ok, Err}
+use Rattle.std.specs.Result.{IsErrAnd}
+use Rattle.refusals.specs.declared.Refusal.{Refusal}
 use Rattle.refusals.specs.Numbers.{refusal_number}
-use Rattle.lifting.specs.Answer.{Answer, out_after}
+use Rattle.lifting.specs.Answer.{Answer, out_after, refused}
 use Rattle.func.specs.Decode.{func_of}
-use Rattle.results.specs.declared.Parsed.{Parsed}
-use Rattle.func.specs.Whole.{empty_pools}
-use Rattle.reader.specs.Parse.{Judges}
+use Rattle.results.specs.declared.Lifted.{Lifted}
+use Rattle.results.specs.declared.Unlifted.{Unlifted}
+use Rattle.results.specs.Told.{no_list}
 use Rattle.reader.specs.Same.{parsed_judged, stands_judged}
-use Rattle.emit_output.specs.Emit.{Wants, gives_same, outcome}
+use Rattle.emit_output.specs.Emit.{Gives, Wants, gives_same, outcome, refuses}
 use Rattle.lifter.specs.Entry.{EndsClear, clear_refused, clear_tables, early, tabled, wanted_denied, wanted_tabled}
 use Rattle.lifter.proofs.lift.Goals as goal
 
-pub emit-requires : goal.emit-requires
-emit-requires c =
-    let j = subst (λ (x : Parsed). Judges x c.args.text.now (length c.args.func.now) (length c.args.work.now) (empty_pools c.args.func.now) c.judge-p.new.func) c.in-Function.is c.judge-p.ensures.judges in
-    record { stands = stands_judged c.args.text.now c.args.func.now (length c.args.work.now) c.requires.0 j; work_need_in_bounds = omega (arith, c.judge-p.ensures.work_len_unchanged, c.requires.1) }
+pub emit-requires-clause-stands : goal.emit-requires-clause-stands
+emit-requires-clause-stands c = stands_judged c.args.text.now c.args.func.now (length c.args.work.now) c.requires.0 c.in_ok-judge.ensures.judges
 
-pub returns-in-Refused : goal.returns-in-Refused
-returns-in-Refused c =
-    let j = subst (λ (x : Parsed). Judges x c.args.text.now (length c.args.func.now) (length c.args.work.now) (empty_pools c.args.func.now) c.judge-p.new.func) c.in-Refused.is c.judge-p.ensures.judges in
-    let k = early c.args.text.now c.args.first (length c.args.func.now) (length c.args.work.now) (length c.args.out.now) _ (sym j.0) in
-    record { gives = record { told = ap outcome k; words = ap (λ (x : Answer). out_after x c.args.out.now) k }; ends_clear = subst EndsClear k (clear_refused (refusal_number c.in-Refused.r) j.1); func_len_unchanged = c.judge-p.ensures.func_len_unchanged; work_len_unchanged = c.judge-p.ensures.work_len_unchanged; wanted = λ z. wanted_denied c.args.text.now c.args.first (length c.args.func.now) (length c.args.work.now) (length c.args.out.now) _ (sym j.0) }
+-- the answer that the `?` makes of a refusal
+module _ (r : Refusal) where
+  gives_refusal : {A : Answer} (x : Result Lifted Unlifted) (out : List ℕ) → IsErrAnd x (λ e. e ≡ no_list r) → refused (refusal_number r) ≡ A → Gives A x out out
+  gives_refusal (Ok l) out h k = absurd h
+  gives_refusal (Err e) out h k = record { told = ap (λ (z : Unlifted). refuses (refusal_number z.refusal)) h ∙ ap outcome k; words = ap (λ (z : Answer). out_after z out) k }
 
-pub returns-in-Function : goal.returns-in-Function
-returns-in-Function c =
-    let j = subst (λ (x : Parsed). Judges x c.args.text.now (length c.args.func.now) (length c.args.work.now) (empty_pools c.args.func.now) c.judge-p.new.func) c.in-Function.is c.judge-p.ensures.judges in
-    let e = parsed_judged c.args.text.now c.args.func.now (length c.args.work.now) c.requires.0 j in
-    let k = tabled c.args.text.now c.args.first (length c.args.func.now) (length c.args.work.now) (length c.args.out.now) (func_of c.judge-p.new.func) e in
-    record { gives = gives_same c.emit.ensures.gives k; ends_clear = subst EndsClear k (clear_tables (func_of c.judge-p.new.func) c.args.first (length c.args.out.now)); func_len_unchanged = c.judge-p.ensures.func_len_unchanged; work_len_unchanged = c.emit.ensures.work_len_unchanged ∙ c.judge-p.ensures.work_len_unchanged; wanted = subst (λ (n : ℕ). Wants n c.emit.result) (wanted_tabled c.args.text.now c.args.first (length c.args.func.now) (length c.args.work.now) (length c.args.out.now) (func_of c.judge-p.new.func) e) c.emit.ensures.wanted }
+  wants_refusal : {n : ℕ} (x : Result Lifted Unlifted) → IsErrAnd x (λ e. e ≡ no_list r) → 0 ≡ n → Wants n x
+  wants_refusal (Ok l) h k = tt
+  wants_refusal (Err e) h k = λ z. ap (λ (y : Unlifted). y.wanted) h ∙ k
+
+pub returns-in_err-judge-clause-gives : goal.returns-in_err-judge-clause-gives
+returns-in_err-judge-clause-gives c =
+    let j = c.in_err-judge.ensures.judges in
+    gives_refusal c.in_err-judge.field-0.0 c.from_residual.result c.args.out.now c.from_residual.ensures.1
+    (early c.args.text.now c.args.first (length c.args.func.now) (length c.args.work.now) (length c.args.out.now) _ (sym j.0))
+
+pub returns-in_err-judge-clause-ends_clear : goal.returns-in_err-judge-clause-ends_clear
+returns-in_err-judge-clause-ends_clear c =
+    let r = c.in_err-judge.field-0.0 in
+    let j = c.in_err-judge.ensures.judges in
+    subst EndsClear (early c.args.text.now c.args.first (length c.args.func.now) (length c.args.work.now) (length c.args.out.now) _ (sym j.0)) (clear_refused (refusal_number r) j.1)
+
+pub returns-in_err-judge-clause-wanted : goal.returns-in_err-judge-clause-wanted
+returns-in_err-judge-clause-wanted c =
+    let j = c.in_err-judge.ensures.judges in
+    wants_refusal c.in_err-judge.field-0.0 c.from_residual.result c.from_residual.ensures.1
+    (wanted_denied c.args.text.now c.args.first (length c.args.func.now) (length c.args.work.now) (length c.args.out.now) _ (sym j.0))
+
+pub returns-clause-gives : goal.returns-clause-gives
+returns-clause-gives c =
+    let e = parsed_judged c.args.text.now c.args.func.now (length c.args.work.now) c.requires.0 c.in_ok-judge.ensures.judges in
+    gives_same c.emit.ensures.gives (tabled c.args.text.now c.args.first (length c.args.func.now) (length c.args.work.now) (length c.args.out.now) (func_of c.judge.new.func) e)
+
+pub returns-clause-ends_clear : goal.returns-clause-ends_clear
+returns-clause-ends_clear c =
+    let e = parsed_judged c.args.text.now c.args.func.now (length c.args.work.now) c.requires.0 c.in_ok-judge.ensures.judges in
+    subst EndsClear (tabled c.args.text.now c.args.first (length c.args.func.now) (length c.args.work.now) (length c.args.out.now) (func_of c.judge.new.func) e)
+    (clear_tables (func_of c.judge.new.func) c.args.first (length c.args.out.now))
+
+pub returns-clause-wanted : goal.returns-clause-wanted
+returns-clause-wanted c =
+    let e = parsed_judged c.args.text.now c.args.func.now (length c.args.work.now) c.requires.0 c.in_ok-judge.ensures.judges in
+    subst (λ (n : ℕ). Wants n c.emit.result) (wanted_tabled c.args.text.now c.args.first (length c.args.func.now) (length c.args.work.now) (length c.args.out.now) (func_of c.judge.new.func) e) c.emit.ensures.wanted

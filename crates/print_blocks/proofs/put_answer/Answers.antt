@@ -6,7 +6,8 @@ use mathlib.Core.List.{List}
 use lib.ListN.{length}
 use Rattle.lifting.specs.Answer as answer
 use Rattle.func.specs.Decode.{func_of}
-use Rattle.results.specs.declared.Parsed.{Parsed}
+use Rattle.refusals.specs.declared.Refusal.{Refusal}
+use Rattle.std.specs.Prelude.{Result}
 use Rattle.reader.specs.Parse.{answer_of, work_after}
 use Rattle.reader.specs.Same.{accepted, work_cleared}
 use Rattle.print_bytes.specs.Put.{put_bytes_same}
@@ -17,23 +18,23 @@ use Rattle.print_blocks.proofs.put_answer.Goals as goal
 
 pub put_function-requires : goal.put_function-requires
 put_function-requires c =
-    let e = ap (λ (r : Parsed). answer_of r c.parse-r.new.func) (sym c.in-Function.is) ∙ c.parse-r.ensures.func_after in
-    let z = work_cleared c.args.text.now c.args.func.now c.parse-r.new.func c.args.work.now c.parse-r.new.work e c.parse-r.ensures.work_after in
-    record { stands = accepted c.args.text.now c.args.func.now c.parse-r.new.func (length c.args.work.now) e c.parse-r.ensures.func_after_2; work_need_in_bounds = z.0 }
+    let e = ap (λ (r : Result Unit Refusal). answer_of r c.parse.new.func) (sym c.in-Ok.is) ∙ c.parse.ensures.func_after in
+    let z = work_cleared c.args.text.now c.args.func.now c.parse.new.func c.args.work.now c.parse.new.work e c.parse.ensures.work_after in
+    record { stands = accepted c.args.text.now c.args.func.now c.parse.new.func (length c.args.work.now) e c.parse.ensures.func_after_2; work_need_in_bounds = z.0 }
 
-pub returns-in-Function : goal.returns-in-Function
+pub returns-in-Ok : goal.returns-in-Ok
 unfolding blocks_bytes
-returns-in-Function c =
-    let e = ap (λ (r : Parsed). answer_of r c.parse-r.new.func) (sym c.in-Function.is) ∙ c.parse-r.ensures.func_after in
+returns-in-Ok c =
+    let e = ap (λ (r : Result Unit Refusal). answer_of r c.parse.new.func) (sym c.in-Ok.is) ∙ c.parse.ensures.func_after in
     record {
       put_bytes = put_bytes_same c.put_function.ensures.put_bytes (ap blocks_bytes e);
-      func_after = c.parse-r.ensures.func_after_2;
+      func_after = c.parse.ensures.func_after_2;
       work_after = subst (λ (r : answer.Parsed). WorkAfter r c.args.work.now c.put_function.new.work) e
-          (subst (λ (z : List ℕ). LaidOut (func_of c.parse-r.new.func) (func_of c.parse-r.new.func).regions z c.put_function.new.work) (c.parse-r.ensures.work_after ∙ ap (λ (r : answer.Parsed). work_after r c.args.work.now) (sym e)) c.put_function.ensures.laid_out);
+          (subst (λ (z : List ℕ). LaidOut (func_of c.parse.new.func) (func_of c.parse.new.func).regions z c.put_function.new.work) (c.parse.ensures.work_after ∙ ap (λ (r : answer.Parsed). work_after r c.args.work.now) (sym e)) c.put_function.ensures.laid_out);
     }
 
-pub returns-in-Refused : goal.returns-in-Refused
+pub returns-in-Err : goal.returns-in-Err
 unfolding blocks_bytes
-returns-in-Refused c =
-    let e = ap (λ (r : Parsed). answer_of r c.parse-r.new.func) (sym c.in-Refused.is) ∙ c.parse-r.ensures.func_after in
-    record { put_bytes = put_bytes_same c.refused.ensures (ap refused_bytes c.number.ensures ∙ ap blocks_bytes e); func_after = c.parse-r.ensures.func_after_2; work_after = subst (λ (r : answer.Parsed). WorkAfter r c.args.work.now c.parse-r.new.work) e (c.parse-r.ensures.work_after ∙ ap (λ (r : answer.Parsed). work_after r c.args.work.now) (sym e)) }
+returns-in-Err c =
+    let e = ap (λ (r : Result Unit Refusal). answer_of r c.parse.new.func) (sym c.in-Err.is) ∙ c.parse.ensures.func_after in
+    record { put_bytes = put_bytes_same c.refused.ensures (ap refused_bytes c.from.ensures ∙ ap blocks_bytes e); func_after = c.parse.ensures.func_after_2; work_after = subst (λ (r : answer.Parsed). WorkAfter r c.args.work.now c.parse.new.work) e (c.parse.ensures.work_after ∙ ap (λ (r : answer.Parsed). work_after r c.args.work.now) (sym e)) }

@@ -1,19 +1,13 @@
--- The loop's invariant: the bytes before the i-th are put, and those from there on are left. The measure is how many are left.
-use Prim.Native.Nat.{◌-◌}
-use native.Mathlib.Omega.{arith}
-use Rattle.read_cursor.specs.Laws.{text_here}
-use Rattle.print_bytes.specs.Taken.{drop_past}
-use Rattle.print_bytes.specs.Put.{part_start, part_more, part_done, put_bytes_length}
+use Rattle.std.proofs.Common.{sym, arith, take_all}
+use Rattle.std.proofs.lemmas.List.{take_more}
+use Rattle.print_bytes.specs.Put.{put_bytes_none, put_bytes_more, put_bytes_same}
 use Rattle.print_bytes.proofs.put_bytes.Goals as goal
 
-pub loop-i-init : goal.loop-i-init
-loop-i-init c = (omega arith, part_start c.args.s.now (omega arith) (omega arith))
+pub loop-b-init : goal.loop-b-init
+loop-b-init c = put_bytes_none (omega arith) (omega arith)
 
-pub loop-i-preserved : goal.loop-i-preserved
-loop-i-preserved c = (omega arith, part_more c.loop-i.invariant.1 c.put_byte-next.ensures (text_here c.args.s.now c.loop-i.i (omega arith)))
-
-pub shape_of-out : goal.shape_of-out
-shape_of-out c = put_bytes_length c.loop-i.invariant.1.put
+pub loop-b-preserved : goal.loop-b-preserved
+loop-b-preserved c = put_bytes_same (put_bytes_more c.loop-b.invariant c.put_byte-next.ensures) (sym (take_more _ _ 0 c.loop-b-test.true))
 
 pub returns : goal.returns
-returns c = part_done c.loop-i.invariant.1 (drop_past c.loop-i.i c.args.s.now (omega arith))
+returns c = put_bytes_same c.loop-b.invariant (take_all _ _ (omega arith))

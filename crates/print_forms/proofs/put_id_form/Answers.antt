@@ -10,14 +10,14 @@ use Rattle.print_forms.proofs.put_id_form.Goals as goal
 pub returns : goal.returns
 unfolding id_form_bytes
 returns c =
-    let imms : c.wide-imms.result ≡ imm_count c.args.words.now = c.wide-imms.ensures ∙ c.word.ensures in
-    let ids : c.wide-ids.result ≡ id_count c.args.words.now =
-    c.wide-ids.ensures ∙ c.word-2.ensures ∙ ap (λ (n : ℕ). get_or c.args.words.now (5 + 3 * n) 0) imms in
+    let imms : c.word-imms.result ≡ imm_count c.args.words.now = c.word-imms.ensures in
+    let ids : c.word-ids.result ≡ id_count c.args.words.now =
+    c.word-ids.ensures ∙ ap (λ (n : ℕ). get_or c.args.words.now (5 + 3 * n) 0) imms in
     let here =
     put_bytes_same c.put_ids-b.ensures
     (ap ids_bytes
     (c.front.ensures
-    ∙ ap (take c.wide-ids.result) (c.rest.ensures ∙ ap (λ (n : ℕ). drop (6 + 3 * n) c.args.words.now) imms)
+    ∙ ap (take c.word-ids.result) (c.rest.ensures ∙ ap (λ (n : ℕ). drop (6 + 3 * n) c.args.words.now) imms)
     ∙ ap (λ (n : ℕ). take n (drop (6 + 3 * imm_count c.args.words.now) c.args.words.now)) ids
     ∙ sym (inst_ids c.args.words.now))) in
     put_bytes_more c.put_bytes-a.ensures (put_bytes_more here c.put_byte.ensures)

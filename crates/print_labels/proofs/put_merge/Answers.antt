@@ -1,7 +1,7 @@
--- The loop's invariant: the first k merge labels, which come before the targets, are put, and the others are left. The measure is how many are
--- left; each is a point with a number below 512 (`merge_small`).
+-- The first k merge labels, which come before the targets, are put, and the others are left; each is a point with a number below 512
+-- (`merge_small`).
 use mathlib.Core.Path.{ap, ◌∙◌}
-use Prim.Native.Nat.{ℕ, ◌-◌, ◌<◌}
+use Prim.Native.Nat.{ℕ, ◌<◌}
 use native.Mathlib.Omega.{arith}
 use lib.ListN.{length, length-append, get_or-append}
 use Rattle.lifting.specs.Points.{region_entry}
@@ -9,7 +9,7 @@ use Rattle.lifting.specs.Absorb.{merge_labels}
 use Rattle.func.specs.Decode.{func_of}
 use Rattle.walk_points.specs.Numbers.{point_number, point_of}
 use Rattle.terminators.specs.At.{visited_block}
-use Rattle.print_bytes.specs.Put.{part_start, part_more, part_done, put_bytes_same, put_bytes_length}
+use Rattle.print_bytes.specs.Put.{part_start, part_more, part_done, put_bytes_same}
 use Rattle.print_lines.specs.Lines.{point_bytes, points_bytes}
 use Rattle.print_points.specs.Shows.{merge_small, points_next, points_end_law}
 use Rattle.print_labels.proofs.put_merge.Goals as goal
@@ -18,17 +18,17 @@ pub merge_count-n-requires : goal.merge_count-n-requires
 merge_count-n-requires c = record { visited = c.requires.shows.visited; i_lt_m = c.requires.i_lt_m }
 
 pub loop-k-init : goal.loop-k-init
-loop-k-init c = (c.merge_count-n.ensures, omega arith, part_start (points_bytes (merge_labels (visited_block (func_of c.args.func.now) c.args.i).term.merge)) (omega arith) (omega arith))
+loop-k-init c = part_start (points_bytes (merge_labels (visited_block (func_of c.args.func.now) c.args.i).term.merge)) (omega arith) (omega arith)
 
 pub label-requires : goal.label-requires
 label-requires c =
     let t = (visited_block (func_of c.args.func.now) c.args.i).term in
-    record { visited = c.requires.shows.visited; i_lt_m = c.requires.i_lt_m; k_in_bounds = omega (arith, c.loop-k.invariant.0, c.loop-k-test.true, length-append (merge_labels t.merge) t.targets) }
+    record { visited = c.requires.shows.visited; i_lt_m = c.requires.i_lt_m; k_in_bounds = omega (arith, c.merge_count-n.ensures, c.loop-k-test.true, length-append (merge_labels t.merge) t.targets) }
 
 pub put_point-next-requires : goal.put_point-next-requires
 put_point-next-requires c =
     let t = (visited_block (func_of c.args.func.now) c.args.i).term in
-    let h : c.loop-k.k < length (merge_labels t.merge) = omega (arith, c.loop-k.invariant.0, c.loop-k-test.true) in
+    let h : c.loop-k.k < length (merge_labels t.merge) = omega (arith, c.merge_count-n.ensures, c.loop-k-test.true) in
     let e = c.label.ensures ∙ ap point_number (get_or-append (merge_labels t.merge) t.targets (region_entry 0) c.loop-k.k h) in
     omega (arith, e, (merge_small c.requires.shows.visited c.args.i c.requires.i_lt_m c.loop-k.k h).low)
 
@@ -36,16 +36,13 @@ pub loop-k-preserved : goal.loop-k-preserved
 loop-k-preserved c =
     let t = (visited_block (func_of c.args.func.now) c.args.i).term in
     let l = merge_labels t.merge in
-    let h : c.loop-k.k < length l = omega (arith, c.loop-k.invariant.0, c.loop-k-test.true) in
+    let h : c.loop-k.k < length l = omega (arith, c.merge_count-n.ensures, c.loop-k-test.true) in
     let e = c.label.ensures ∙ ap point_number (get_or-append l t.targets (region_entry 0) c.loop-k.k h) in
     let here =
     put_bytes_same c.put_point-next.ensures (ap (λ (x : ℕ). point_bytes (point_of x)) e ∙ (merge_small c.requires.shows.visited c.args.i c.requires.i_lt_m c.loop-k.k h).same) in
-    (c.loop-k.invariant.0, omega (arith, c.loop-k-test.true), part_more c.loop-k.invariant.2 here (points_next l c.loop-k.k h))
-
-pub shape_of-out : goal.shape_of-out
-shape_of-out c = put_bytes_length c.loop-k.invariant.2.put
+    part_more c.loop-k.invariant here (points_next l c.loop-k.k h)
 
 pub returns : goal.returns
 returns c =
-    part_done c.loop-k.invariant.2
-    (points_end_law (merge_labels (visited_block (func_of c.args.func.now) c.args.i).term.merge) c.loop-k.k (omega (arith, c.loop-k.invariant.0, c.loop-k-test.false)))
+    part_done c.loop-k.invariant
+    (points_end_law (merge_labels (visited_block (func_of c.args.func.now) c.args.i).term.merge) c.loop-k.k (omega (arith, c.merge_count-n.ensures, c.loop-k-test.false)))

@@ -1,8 +1,5 @@
--- The loop's invariant: the first k merge labels, which come before the targets, are put, and the others are left. The measure is how many are
--- left; each is a point with a number below 512 (`merge_small`).
-use mathlib.Core.Path.{◌≡◌}
-use Prim.Native.Nat.{◌-◌, ◌≤◌}
-use lib.ListN.{length, drop}
+-- The first k merge labels, which come before the targets, are put, and the others are left.
+use lib.ListN.{drop}
 use Rattle.lifting.specs.Absorb.{merge_labels}
 use Rattle.func.specs.Decode.{func_of}
 use Rattle.terminators.specs.At.{visited_block}
@@ -12,7 +9,4 @@ use Rattle.print_labels.proofs.put_merge.Given as goal
 
 abbrev pub invariant-loop-k : goal.invariant-loop-k
 invariant-loop-k l = let ls = merge_labels (visited_block (func_of l.func) l.i).term.merge in
-    (l.n ≡ length ls) × (l.k ≤ l.n) × Part l.initial.out l.at (points_bytes ls) l.out l.next (points_bytes (drop l.k ls))
-
-abbrev pub decreases-loop-k : goal.decreases-loop-k
-decreases-loop-k l = l.n - l.k
+    Part l.initial.out l.at (points_bytes ls) l.out l.next (points_bytes (drop l.k ls))

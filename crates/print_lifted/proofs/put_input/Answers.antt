@@ -22,16 +22,16 @@ returns-in_default c =
     record { printed = p; count = low (length c.args.out.now) c.args.input.now (length c.args.func.now) (length c.args.work.now) p; func_slice = bad_leaves c.args.input.now (length c.args.func.now) (length c.args.work.now) (length c.args.out.now) _ c.first_line.ensures scratch_after c.args.func.now c.in_default.is; work_slice = bad_leaves c.args.input.now (length c.args.func.now) (length c.args.work.now) (length c.args.out.now) _ c.first_line.ensures scratch_after c.args.work.now c.in_default.is; out_slice = bad_leaves c.args.input.now (length c.args.func.now) (length c.args.work.now) (length c.args.out.now) _ c.first_line.ensures out_after c.args.out.now c.in_default.is }
 
 pub slice_bounds-put_text-count : goal.slice_bounds-put_text-count
-slice_bounds-put_text-count c = line_low c.args.input.now (length c.args.func.now) (length c.args.work.now) (length c.args.out.now) _ c.first_line.ensures c.in-At.is
+slice_bounds-put_text-count c = line_low c.args.input.now (length c.args.func.now) (length c.args.work.now) (length c.args.out.now) _ c.first_line.ensures c.in-Some.is
 
 pub slice_bounds-put_text-start : goal.slice_bounds-put_text-start
 slice_bounds-put_text-start c =
-    let h = line_low c.args.input.now (length c.args.func.now) (length c.args.work.now) (length c.args.out.now) _ c.first_line.ensures c.in-At.is in search rules
+    let h = line_low c.args.input.now (length c.args.func.now) (length c.args.work.now) (length c.args.out.now) _ c.first_line.ensures c.in-Some.is in search rules
 
 pub returns : goal.returns
 returns c =
-    let z = tail_part c.in-At.at c.args.input.now in
+    let z = tail_part c.in-Some.at c.args.input.now in
     let p = put_bytes_same c.put_text.ensures.put_bytes
-    (ap (λ (t : List ℕ). answer_bytes (answer t c.in-At.first (length c.args.func.now) (length c.args.work.now) (length c.args.out.now))) z
-    ∙ good_line c.args.input.now (length c.args.func.now) (length c.args.work.now) (length c.args.out.now) _ c.first_line.ensures c.in-At.is) in
-    record { printed = p; count = low (length c.args.out.now) c.args.input.now (length c.args.func.now) (length c.args.work.now) p; func_slice = c.put_text.ensures.func_after ∙ ap (λ (t : List ℕ). scratch_after (answer t c.in-At.first (length c.args.func.now) (length c.args.work.now) (length c.args.out.now)) c.args.func.now) z ∙ good_leaves c.args.input.now (length c.args.func.now) (length c.args.work.now) (length c.args.out.now) _ c.first_line.ensures scratch_after c.args.func.now c.in-At.is; work_slice = c.put_text.ensures.work_after ∙ ap (λ (t : List ℕ). scratch_after (answer t c.in-At.first (length c.args.func.now) (length c.args.work.now) (length c.args.out.now)) c.args.work.now) z ∙ good_leaves c.args.input.now (length c.args.func.now) (length c.args.work.now) (length c.args.out.now) _ c.first_line.ensures scratch_after c.args.work.now c.in-At.is; out_slice = c.put_text.ensures.out_after ∙ ap (λ (t : List ℕ). out_after (answer t c.in-At.first (length c.args.func.now) (length c.args.work.now) (length c.args.out.now)) c.args.out.now) z ∙ good_leaves c.args.input.now (length c.args.func.now) (length c.args.work.now) (length c.args.out.now) _ c.first_line.ensures out_after c.args.out.now c.in-At.is }
+    (ap (λ (t : List ℕ). answer_bytes (answer t c.in-Some.first (length c.args.func.now) (length c.args.work.now) (length c.args.out.now))) z
+    ∙ good_line c.args.input.now (length c.args.func.now) (length c.args.work.now) (length c.args.out.now) _ c.first_line.ensures c.in-Some.is) in
+    record { printed = p; count = low (length c.args.out.now) c.args.input.now (length c.args.func.now) (length c.args.work.now) p; func_slice = c.put_text.ensures.func_after ∙ ap (λ (t : List ℕ). scratch_after (answer t c.in-Some.first (length c.args.func.now) (length c.args.work.now) (length c.args.out.now)) c.args.func.now) z ∙ good_leaves c.args.input.now (length c.args.func.now) (length c.args.work.now) (length c.args.out.now) _ c.first_line.ensures scratch_after c.args.func.now c.in-Some.is; work_slice = c.put_text.ensures.work_after ∙ ap (λ (t : List ℕ). scratch_after (answer t c.in-Some.first (length c.args.func.now) (length c.args.work.now) (length c.args.out.now)) c.args.work.now) z ∙ good_leaves c.args.input.now (length c.args.func.now) (length c.args.work.now) (length c.args.out.now) _ c.first_line.ensures scratch_after c.args.work.now c.in-Some.is; out_slice = c.put_text.ensures.out_after ∙ ap (λ (t : List ℕ). out_after (answer t c.in-Some.first (length c.args.func.now) (length c.args.work.now) (length c.args.out.now)) c.args.out.now) z ∙ good_leaves c.args.input.now (length c.args.func.now) (length c.args.work.now) (length c.args.out.now) _ c.first_line.ensures out_after c.args.out.now c.in-Some.is }

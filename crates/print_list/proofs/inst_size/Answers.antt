@@ -8,7 +8,7 @@ use Rattle.print_list.proofs.inst_size.Goals as goal
 
 pub returns : goal.returns
 returns c =
-    let imms : c.wide-imms.result ≡ get_or c.args.words.now 4 0 = c.wide-imms.ensures ∙ c.word.ensures in
-    let ids : c.wide.result ≡ get_or c.args.words.now (5 + 3 * get_or c.args.words.now 4 0) 0 =
-    c.wide.ensures ∙ c.word-2.ensures ∙ ap (λ (n : ℕ). get_or c.args.words.now (5 + 3 * n) 0) imms in
+    let imms : c.word-imms.result ≡ get_or c.args.words.now 4 0 = c.word-imms.ensures in
+    let ids : c.word.result ≡ get_or c.args.words.now (5 + 3 * get_or c.args.words.now 4 0) 0 =
+    c.word.ensures ∙ ap (λ (n : ℕ). get_or c.args.words.now (5 + 3 * n) 0) imms in
     omega arith

@@ -1,72 +1,27 @@
--- The loop's invariant: the immediates before place i are put, and `left` are left, of which some may lack words. The measure is `left`; without
--- three words there is no immediate (`imms_none`).
-use mathlib.Core.Path.{ap}
-use mathlib.Core.Logic.{inl, inr}
-use Prim.Native.Nat.{◌+◌, ◌≤◌}
-use native.Mathlib.Omega.{arith}
-use lib.ListN.{length, drop, length-drop}
-use borrow.Author.Tests.{ltb-true, ltb-false}
+use Rattle.std.proofs.Common.{◌≡◌, List, ℕ, ◌+◌, ◌-◌, ◌<◌, ◌≤◌, ◌++◌, sym, ap, ◌∙◌, inl, inr, arith, length, take, drop}
 use Rattle.lifting.specs.Words.{imms_from}
-use Rattle.print_bytes.specs.Put.{part_start, part_more, part_done, put_bytes_length}
-use Rattle.print_bytes.specs.Lines.{imms_bytes}
-use Rattle.print_bytes.specs.Taken.{imms_none, imms_next}
+use Rattle.print_bytes.specs.Put.{part_more, part_done}
+use Rattle.print_bytes.specs.Lines.{imm_bytes, imms_bytes}
+use Rattle.print_bytes.specs.Taken.{imm_at, imms_next, imms_none, tail_part}
 use Rattle.print_operands.proofs.put_imms.Goals as goal
 
-pub loop-left-init : goal.loop-left-init
-loop-left-init c = (omega arith, part_start (imms_bytes (imms_from c.args.n c.args.words.now).got) (omega arith) (omega arith))
-
-pub overflow_sub-words : goal.overflow_sub-words
-overflow_sub-words c = omega (arith, ltb-true)
-
-pub offset_bounds-words-i : goal.offset_bounds-words-i
-offset_bounds-words-i c = omega (arith, ltb-true)
-
-pub bounds-words-i : goal.bounds-words-i
-bounds-words-i c = omega (arith, ltb-true)
-
-pub overflow_add-i : goal.overflow_add-i
-overflow_add-i c = omega (arith, ltb-true)
-
-pub offset_bounds-words-i-in-loop-left : goal.offset_bounds-words-i-in-loop-left
-offset_bounds-words-i-in-loop-left c = omega (arith, ltb-true)
-
-pub bounds-words-i-in-loop-left : goal.bounds-words-i-in-loop-left
-bounds-words-i-in-loop-left c = omega (arith, ltb-true)
-
-pub overflow_add-i-in-loop-left : goal.overflow_add-i-in-loop-left
-overflow_add-i-in-loop-left c = omega (arith, ltb-true)
-
-pub offset_bounds-words-i-in-loop-left-2 : goal.offset_bounds-words-i-in-loop-left-2
-offset_bounds-words-i-in-loop-left-2 c = omega (arith, ltb-true)
-
-pub bounds-words-i-in-loop-left-2 : goal.bounds-words-i-in-loop-left-2
-bounds-words-i-in-loop-left-2 c = omega (arith, ltb-true)
-
-pub overflow_add-i-in-loop-left-2 : goal.overflow_add-i-in-loop-left-2
-overflow_add-i-in-loop-left-2 c = omega (arith, ltb-true)
-
-pub overflow_sub-left : goal.overflow_sub-left
-overflow_sub-left c = omega (arith, ltb-true)
-
-pub loop-left-smaller : goal.loop-left-smaller
-loop-left-smaller c = omega (arith, ltb-true)
-
-pub loop-left-preserved : goal.loop-left-preserved
+-- the next immediate, and those of the words behind it
+next : (n k : ℕ) (w : List ℕ) → k < n → 3 ≤ length w
+    → imms_bytes (imms_from (n - k) w).got ≡ imm_bytes (imm_at w 0) ++ imms_bytes (imms_from (n - (k + 1)) (take (length w - 3) (drop 3 w))).got
 unfolding imms_bytes
-loop-left-preserved c =
-    let h : c.loop-left.i + 3 ≤ length c.args.words.now = omega (arith, ltb-true) in
-    (h, part_more c.loop-left.invariant.1 c.put_imm-next.ensures (ap imms_bytes (imms_next c.loop-left.left c.loop-left.i c.args.words.now (omega arith) h)))
+next n k w h l =
+    let one_less : n - k - 1 ≡ n - (k + 1) = omega arith in
+    ap imms_bytes (imms_next (n - k) 0 w (omega arith) l)
+    ∙ ap (λ (m : ℕ). imm_bytes (imm_at w 0) ++ imms_bytes (imms_from m (drop 3 w)).got) one_less
+    ∙ ap (λ (v : List ℕ). imm_bytes (imm_at w 0) ++ imms_bytes (imms_from (n - (k + 1)) v).got) (sym (tail_part 3 w))
 
-pub shape_of-out-else-words-i-gt2 : goal.shape_of-out-else-words-i-gt2
-shape_of-out-else-words-i-gt2 c = put_bytes_length c.loop-left.invariant.1.put
+pub loop-preserved : goal.loop-preserved
+loop-preserved c = part_more c.loop.invariant c.put_imm-next.ensures (next c.args.n c.loop.counter c.loop.left.now (omega arith) c.in-len3-up.len_at_least)
 
-pub returns-else-words-i-gt2 : goal.returns-else-words-i-gt2
+pub returns-after-loop : goal.returns-after-loop
 unfolding imms_bytes
-returns-else-words-i-gt2 c = part_done c.loop-left.invariant.1 (ap imms_bytes (imms_none c.loop-left.left (drop c.loop-left.i c.args.words.now) (inr (omega (arith, ltb-false, length-drop c.loop-left.i c.args.words.now)))))
+returns-after-loop c = part_done c.loop.invariant (ap imms_bytes (imms_none (c.args.n - c.loop.counter) c.loop.left.now (inl (omega arith))))
 
-pub shape_of-out-after-loop-left : goal.shape_of-out-after-loop-left
-shape_of-out-after-loop-left c = put_bytes_length c.loop-left.invariant.1.put
-
-pub returns-after-loop-left : goal.returns-after-loop-left
+pub returns-in_default : goal.returns-in_default
 unfolding imms_bytes
-returns-after-loop-left c = part_done c.loop-left.invariant.1 (ap imms_bytes (imms_none c.loop-left.left (drop c.loop-left.i c.args.words.now) (inl (omega arith))))
+returns-in_default c = part_done c.loop.invariant (ap imms_bytes (imms_none (c.args.n - c.loop.counter) c.loop.left.now (inr c.in_default.len_below)))

@@ -8,10 +8,10 @@ use Rattle.print_bytes.specs.Put.{put_bytes_more, put_bytes_same}
 use Rattle.print_refusal.specs.Line.{line_of}
 use Rattle.print_refusal.proofs.put_line.Goals as goal
 
-pub returns-in-Function : goal.returns-in-Function
+pub returns-in-Ok : goal.returns-in-Ok
 unfolding line_of
-returns-in-Function c = put_bytes_same c.put_bytes.ensures (sym (ap line_of c.in-Function.is))
+returns-in-Ok c = put_bytes_same c.put_bytes.ensures (sym (ap line_of c.in-Ok.is))
 
-pub returns-in-Refused : goal.returns-in-Refused
+pub returns-in-Err : goal.returns-in-Err
 unfolding line_of
-returns-in-Refused c = put_bytes_same (put_bytes_more c.put_number-n.ensures c.put_byte.ensures) (ap (λ (k : ℕ). digits k ++ bytes "\n") c.number.ensures ∙ sym (ap line_of c.in-Refused.is))
+returns-in-Err c = put_bytes_same (put_bytes_more c.put_number-n.ensures c.put_byte.ensures) (ap (λ (k : ℕ). digits k ++ bytes "\n") c.from.ensures ∙ sym (ap line_of c.in-Err.is))
