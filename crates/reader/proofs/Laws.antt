@@ -8,7 +8,6 @@ use lib.Dec.{leb}
 use borrow.Author.Tests.{le-leb, lt-leb}
 use Rattle.lifting.specs.Limits.{func_words, work_words}
 use Rattle.func.specs.Whole.{Clear}
-use Rattle.read_text.specs.Whole.{TextIs}
 use Rattle.work.specs.Layout.{entered_at, entered_end}
 use Rattle.work.specs.Aside.{Cleared}
 use Rattle.reader.specs.Parse.{Unentered, enough_test}
