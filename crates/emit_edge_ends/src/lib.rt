@@ -93,6 +93,7 @@ pub fn edge_target(func: &[u32], w: TermKind, k: usize) -> usize
         TermKind::Select(n, _) => region_start(node_child(func, n, 0)),
         TermKind::Loop(_, b, _) => region_start(b),
         TermKind::Join(n, _) => node_end(n),
+        // apart from the next one, since under one pattern for both the proof does not learn which it was
         TermKind::Repeat(n, _) => node_start(n),
         TermKind::Test(n, _) => node_start(n),
     }
