@@ -68,6 +68,7 @@ fn carries(func: &[u32], w: TermKind) -> Carried
 {
     match w {
         TermKind::Line(c) => line_carries(func, c),
+        // three arms, since under one pattern for all the proof does not learn which it was
         TermKind::Join(_, r) => outs_carry(func, r),
         TermKind::Repeat(_, r) => outs_carry(func, r),
         TermKind::Test(_, r) => outs_carry(func, r),

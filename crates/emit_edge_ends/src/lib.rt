@@ -92,6 +92,7 @@ pub fn edge_target(func: &[u32], w: TermKind, k: usize) -> usize
         TermKind::Select(n, _) => Point::RegionEntry(node_child(func, n, 0)).number(),
         TermKind::Loop(_, b, _) => Point::RegionEntry(b).number(),
         TermKind::Join(n, _) => Point::NodeExit(n).number(),
+        // apart from the next one, since under one pattern for both the proof does not learn which it was
         TermKind::Repeat(n, _) => Point::NodeEntry(n).number(),
         TermKind::Test(n, _) => Point::NodeEntry(n).number(),
     }

@@ -2,7 +2,6 @@
 -- its labels and name its values.
 use mathlib.Core.Path.{sym, ap, ap₂, subst, ◌∙◌}
 use mathlib.Core.List.{◌++◌}
-use Prim.Native.Nat.{◌+◌, ◌-◌}
 use native.Mathlib.Omega.{arith}
 use Rattle.lifting.specs.Points.{Merge, Terminator}
 use Rattle.lifting.specs.Absorb.{merge_labels}

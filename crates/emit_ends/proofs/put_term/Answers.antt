@@ -1,7 +1,6 @@
 -- The front, the values and the targets' labels are appended one behind the other; each field is the terminator's, and the count of ids is that
 -- of values and targets together (`term_is`).
 use mathlib.Core.Path.{sym, subst}
-use Prim.Native.Nat.{◌-◌}
 use native.Mathlib.Omega.{arith}
 use Rattle.lifting.specs.Walk.{walk_of}
 use Rattle.lifting.specs.Absorb.{kept}

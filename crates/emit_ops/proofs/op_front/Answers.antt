@@ -1,6 +1,6 @@
 -- Each field that is looked up is the op's own, and the result is the one for the op's type, so that the front is the op's.
 use mathlib.Core.Path.{ap, ◌∙◌}
-use Prim.Native.Nat.{ℕ, ◌-◌}
+use Prim.Native.Nat.{ℕ}
 use Rattle.lifting.specs.Walk.{walk_of}
 use Rattle.lifting.specs.Absorb.{kept}
 use Rattle.lifting.specs.Instructions.{result_id}

@@ -1,10 +1,9 @@
 -- The loop's invariant: the first k ops of the node are appended. The measure is how many are left; a node of a text that passes the tests lists
 -- ops of the text alone.
 use mathlib.Core.Path.{sym, ap, subst}
-use Prim.Native.Nat.{ℕ, ◌-◌, ◌<◌}
+use Prim.Native.Nat.{ℕ, ◌<◌}
 use native.Mathlib.Omega.{arith}
 use lib.ListN.{length}
-use borrow.Author.Rules.{rules}
 use Rattle.lifting.specs.Parts.{block_ops, node_of}
 use Rattle.func.specs.Decode.{func_of}
 use Rattle.general_laws.specs.Members.{in_get_or}

@@ -1,6 +1,5 @@
 -- The loop's invariant: the first k ops of the node are appended. The measure is how many are left; a node of a text that passes the tests lists
 -- ops of the text alone.
-use Prim.Native.Nat.{◌-◌}
 use lib.ListN.{get_or, length}
 use Rattle.lifting.specs.Parts.{block_ops, node_of}
 use Rattle.func.specs.Decode.{func_of}

@@ -1,6 +1,5 @@
 -- The front, the id that is called and the operands are appended one behind the other, with the count of the latter two for the ids: that is the
 -- op (`op_is`), and the tests of the text name its operands.
-use Prim.Native.Nat.{◌-◌}
 use native.Mathlib.Omega.{arith}
 use Rattle.lifting.specs.Walk.{walk_of}
 use Rattle.lifting.specs.Absorb.{kept}

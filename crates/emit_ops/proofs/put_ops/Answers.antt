@@ -1,6 +1,6 @@
 -- Only a node's entry has ops, which are the node's; at each other point the list is empty (`ops_at`), and nothing is appended.
 use mathlib.Core.Path.{sym, ap, subst, ◌∙◌}
-use Prim.Native.Nat.{◌-◌, ◌<◌}
+use Prim.Native.Nat.{◌<◌}
 use native.Mathlib.Omega.{arith}
 use lib.ListN.{length}
 use Rattle.general_laws.specs.Lists.{gather}

@@ -7,7 +7,6 @@ use Rattle.func.specs.Decode.{func_of}
 use Rattle.lifting_runs.specs.Refers.{Named}
 use Rattle.emit_names.specs.Ids.{id_in}
 use Rattle.emit_words.specs.Writes.{writes_more, writes_same}
-use Rattle.emit_insts.specs.Ready.{ready_visited}
 use Rattle.emit_phis.specs.Items.{phi_runs}
 use Rattle.emit_phis.proofs.Steps.{ids_are, key_names}
 use Rattle.emit_phis.proofs.put_phi.Goals as goal

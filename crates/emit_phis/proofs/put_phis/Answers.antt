@@ -1,13 +1,11 @@
 -- The loop's invariant: the first j phis are appended. The measure is how many are left; the edges into the point, and so the count of ids, are
 -- the same for all of them.
 use mathlib.Core.Path.{ap, ◌∙◌}
-use Prim.Native.Nat.{◌-◌, ◌*◌}
+use Prim.Native.Nat.{◌*◌}
 use native.Mathlib.Omega.{arith}
-use borrow.Author.Rules.{rules}
 use lib.ListN.{length}
 use Rattle.func.specs.Decode.{func_of}
 use Rattle.emit_words.specs.Writes.{loop_end, loop_start, loop_turn, writes_same}
-use Rattle.emit_insts.specs.Ready.{ready_visited}
 use Rattle.emit_phis.specs.Items.{phis_each}
 use Rattle.emit_phis.proofs.put_phis.Goals as goal
 

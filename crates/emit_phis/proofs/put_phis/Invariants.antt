@@ -1,6 +1,5 @@
 -- The loop's invariant: the first j phis are appended. The measure is how many are left; the edges into the point, and so the count of ids, are
 -- the same for all of them.
-use Prim.Native.Nat.{◌-◌}
 use lib.ListN.{length}
 use Rattle.func.specs.Decode.{func_of}
 use Rattle.terminators.specs.At.{visited_block}

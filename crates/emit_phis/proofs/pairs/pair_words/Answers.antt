@@ -1,6 +1,6 @@
 -- The loop's invariant: two words are counted for each edge passed, and the rest of the chain is left. The measure is the number of the next
 -- edge, which falls along a chain.
-use Rattle.std.proofs.Common.{◌≡◌, ap, ℕ, length, arith}
+use Rattle.std.proofs.Common.{ap, ℕ, length, arith}
 use Rattle.emit_edge_ends.specs.Links.{chain, chain_none}
 use Rattle.emit_chains.specs.Edge.{edge_word}
 use Rattle.emit_phis.proofs.pairs.pair_words.Goals as goal
