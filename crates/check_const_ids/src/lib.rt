@@ -8,7 +8,7 @@ ghost use Rattle.func.specs.Store.{count};
 ghost use Rattle.check_limits.specs.Limits.{LimitsReady};
 ghost use Rattle.check_const_ids.specs.Test.{const_ids, distinct_test};
 
-use func_pools::{CONSTS, count, wide};
+use func_pools::{CONSTS, count};
 use func_rows::row_const_id;
 
 // The id of constant i is that of a later one too.
@@ -17,16 +17,9 @@ fn repeats(func: &[u32], i: usize) -> bool
     requires i_bound { i < count consts func.now }
     ensures { result ≡ within (get_or (const_ids func.now) i 0) (drop (i + 1) (const_ids func.now)) }
 {
-    let n = wide(count(func, CONSTS));
+    let n = count(func, CONSTS) as usize;
     let x = row_const_id(func, i);
-    let mut j = i + 1;
-    while j < n {
-        if x == row_const_id(func, j) {
-            return true;
-        }
-        j += 1;
-    }
-    false
+    (i + 1..n).any(|j| row_const_id(func, j) == x)
 }
 
 // The same, by constant i's mark: where that is not set, no later id is the same.
@@ -36,10 +29,7 @@ fn met(func: &[u32], i: usize, marked: bool) -> bool
     requires func_value { marked ≡ false → within (get_or (const_ids func.now) i 0) (drop (i + 1) (const_ids func.now)) ≡ false }
     ensures { result ≡ within (get_or (const_ids func.now) i 0) (drop (i + 1) (const_ids func.now)) }
 {
-    if marked {
-        return repeats(func, i);
-    }
-    false
+    marked && repeats(func, i)
 }
 
 // How many marks there are; an id's is that of its remainder. A prime number, so that ids in even steps have marks of their own.
@@ -50,16 +40,13 @@ pub fn consts_distinct(func: &[u32]) -> bool
     requires { LimitsReady func.now }
     ensures { result ≡ distinct_test func.now }
 {
-    let mut marks = [false; 2039];
-    let mut i = wide(count(func, CONSTS));
-    while 0 < i {
-        let j = i - 1;
-        let k = wide(row_const_id(func, j)) % MARKS;
-        if met(func, j, marks[k]) {
+    let mut marks = [false; MARKS];
+    for i in (0..count(func, CONSTS) as usize).rev() {
+        let k = row_const_id(func, i) as usize % MARKS;
+        if met(func, i, marks[k]) {
             return false;
         }
         marks[k] = true;
-        i = j;
     }
     true
 }

@@ -19,7 +19,6 @@ use func_look::{
     ctrl_in_count, ctrl_kind, ctrl_region, ctrl_total, entry_count, entry_region, target,
     target_count,
 };
-use func_pools::wide;
 use walk_roots::tables::{index, mark_nodes};
 use walk_roots::walk::order;
 use work::{CHILDREN, LINES, ROOTS_END};
@@ -49,14 +48,7 @@ fn is_target(func: &[u32], c: usize, r: usize) -> bool
     ensures { result ≡ within r (ctrl_line_of (func_of func.now) c).1.to }
 {
     let k = target_count(func, c);
-    let mut i = 0;
-    while i < k {
-        if target(func, c, i) == r {
-            return true;
-        }
-        i += 1;
-    }
-    false
+    (0..k).any(|i| target(func, c, i) == r)
 }
 
 // Region r can be a target.
@@ -65,10 +57,7 @@ fn target_fits(func: &[u32], work: &[u32], r: usize) -> bool
     requires r_bound { (r < 128) × (tables_end ≤ length work.now) }
     ensures { result ≡ target_fits (func_of func.now) r }
 {
-    if r == 0 {
-        return false;
-    }
-    is_root(func, work, r)
+    0 < r && is_root(func, work, r)
 }
 
 // The targets of line c fit.
@@ -80,15 +69,7 @@ fn targets_fit(func: &[u32], work: &[u32], c: usize) -> bool
     ensures { result ≡ every (target_fits (func_of func.now)) (ctrl_line_of (func_of func.now) c).1.to }
 {
     let k = target_count(func, c);
-    let mut i = 0;
-    while i < k {
-        let r = target(func, c, i);
-        if !target_fits(func, work, r) {
-            return false;
-        }
-        i += 1;
-    }
-    true
+    (0..k).all(|i| target_fits(func, work, target(func, c, i)))
 }
 
 // An entry of line c from entry s on is region r's.
@@ -98,14 +79,7 @@ fn entry_after(func: &[u32], c: usize, s: usize, r: usize) -> bool
     ensures { result ≡ within r (keys (drop s (ctrl_line_of (func_of func.now) c).1.vals)) }
 {
     let k = entry_count(func, c);
-    let mut i = s;
-    while i < k {
-        if entry_region(func, c, i) == r {
-            return true;
-        }
-        i += 1;
-    }
-    false
+    (s..k).any(|i| entry_region(func, c, i) == r)
 }
 
 // No region has two entries of line c.
@@ -115,15 +89,7 @@ fn entries_distinct(func: &[u32], c: usize) -> bool
     ensures { result ≡ distinct (keys (ctrl_line_of (func_of func.now) c).1.vals) }
 {
     let k = entry_count(func, c);
-    let mut i = 0;
-    while i < k {
-        let r = entry_region(func, c, i);
-        if entry_after(func, c, i + 1, r) {
-            return false;
-        }
-        i += 1;
-    }
-    true
+    (0..k).all(|i| !entry_after(func, c, i + 1, entry_region(func, c, i)))
 }
 
 // The entries of line c are its targets'.
@@ -133,15 +99,7 @@ fn entries_fit(func: &[u32], c: usize) -> bool
     ensures { result ≡ every (λ r. within r (ctrl_line_of (func_of func.now) c).1.to) (keys (ctrl_line_of (func_of func.now) c).1.vals) }
 {
     let k = entry_count(func, c);
-    let mut i = 0;
-    while i < k {
-        let r = entry_region(func, c, i);
-        if !is_target(func, c, r) {
-            return false;
-        }
-        i += 1;
-    }
-    true
+    (0..k).all(|i| is_target(func, c, entry_region(func, c, i)))
 }
 
 // A line of a kind can have so many inputs and targets.
@@ -166,20 +124,14 @@ fn ctrl_fits(func: &[u32], work: &[u32], c: usize) -> bool
     requires regions_marked { RegionsMarked children_at (child_list (func_of func.now)) work.now × (tables_end ≤ length work.now) }
     ensures { result ≡ ctrl_fits (func_of func.now) (ctrl_line_of (func_of func.now) c).1 }
 {
-    if !targets_fit(func, work, c) {
-        return false;
-    }
-    if !entries_distinct(func, c) {
-        return false;
-    }
-    if !entries_fit(func, c) {
-        return false;
-    }
-    kind_fits(
-        ctrl_kind(func, c),
-        ctrl_in_count(func, c),
-        target_count(func, c),
-    )
+    targets_fit(func, work, c)
+        && entries_distinct(func, c)
+        && entries_fit(func, c)
+        && kind_fits(
+            ctrl_kind(func, c),
+            ctrl_in_count(func, c),
+            target_count(func, c),
+        )
 }
 
 // Line c fits, and its region is no child.
@@ -190,11 +142,7 @@ fn line_fits(func: &[u32], work: &[u32], c: usize) -> bool
     requires regions_marked { RegionsMarked children_at (child_list (func_of func.now)) work.now × (tables_end ≤ length work.now) }
     ensures { result ≡ line_fits (func_of func.now) (ctrl_line_of (func_of func.now) c) }
 {
-    let r = ctrl_region(func, c);
-    if !is_root(func, work, r) {
-        return false;
-    }
-    ctrl_fits(func, work, c)
+    is_root(func, work, ctrl_region(func, c)) && ctrl_fits(func, work, c)
 }
 
 // Each line does.
@@ -205,14 +153,7 @@ fn lines_fit(func: &[u32], work: &[u32]) -> bool
     ensures { result ≡ every (line_fits (func_of func.now)) (func_of func.now).ctrls }
 {
     let k = ctrl_total(func);
-    let mut i = 0;
-    while i < k {
-        if !line_fits(func, work, i) {
-            return false;
-        }
-        i += 1;
-    }
-    true
+    (0..k).all(|i| line_fits(func, work, i))
 }
 
 // Each of the n roots at the end of their table has a ctrl line.
@@ -222,16 +163,7 @@ fn have_ctrls(func: &[u32], work: &[u32], n: usize) -> bool
     requires n_bound { (n ≤ 128) × (tables_end ≤ length work.now) }
     ensures { result ≡ every (λ r. within r (keys (func_of func.now).ctrls)) (last_roots work.now n) }
 {
-    let a = ROOTS_END - n;
-    let mut i = 0;
-    while i < n {
-        let r = wide(work[a + i]);
-        if !has_line(func, work, r) {
-            return false;
-        }
-        i += 1;
-    }
-    true
+    (ROOTS_END - n..ROOTS_END).all(|i| has_line(func, work, work[i] as usize))
 }
 
 // The text in the function slice passes refusal 7. Only the tables of the control-flow walk are written.

@@ -22,7 +22,9 @@ use Rattle.lifting.specs.Tree.{stands_once, around_itself, roots_have_ways_out, 
 use Rattle.lifting.specs.Counts.{is_exit, ends_in_exit, outs_fit, node_fits, edges_fit, body_outs, body_fits, counts_agree}
 use Rattle.func.specs.Layout.{params, decls, values, node_refs, child_refs, regions, nodes, ctrls, entry_room}
 use Rattle.func.specs.Store.{count, view}
-use Rattle.func.specs.Keep.{one_word, node_number}
+use Rattle.func.specs.declared.NodeKind.TheVariants.{Loop}
+use Rattle.func.specs.Keep.{one_word}
+use Rattle.func.specs.Kinds.{node_kind, node_kind_from, node_kind_law}
 use Rattle.func.specs.Decode.{decode_number}
 use Rattle.func.specs.Whole.{collections, sizes}
 use Rattle.func.specs.Tables.{Listed, word}
@@ -32,7 +34,7 @@ use Rattle.func.proofs.Stored.{stored_nodes, ins_count, results_count, stored_ki
 use Rattle.general_laws.specs.Tests.{every_all, both}
 use Rattle.general_laws.specs.Fewer.{fewer_below, fits}
 use Rattle.check_counts.specs.Numbered.{every_numbered}
-use Rattle.check_counts.specs.Test.{ins_in, results_in, value_count_in, child_count_in, outs_in, child_in, node_in, ends_at, ends_test, case_test, body_test, cases_test, node_kind_test, node_test, nodes_test, results_test, func_test, counts_test, CountsSafe}
+use Rattle.check_counts.specs.Test.{ins_in, results_in, value_count_in, child_count_in, outs_in, child_in, node_in, kind_in, exit_kind, ends_at, ends_test, case_test, body_test, cases_test, node_kind_test, node_test, nodes_test, results_test, func_test, counts_test, CountsSafe}
 
 -- What the earlier refusals say.
 record Few (F : Func) : Type 0 where
@@ -84,20 +86,20 @@ eqb_more a b = go (eqb a b) refl
     go false e = ne_eqb (suc a) (b + 1) (λ q. eqb-false a b e (omega arith))
 
 -- a loop has a body
-loop_body : (g : Node) → node_number g ≡ 3 → 0 < length (children_of g)
-loop_body (block is) e = absurd (omega arith)
-loop_body (select bool_cond v cs ds u) e = absurd (omega arith)
-loop_body (select (spv_inst i) v cs ds u) e = absurd (omega arith)
+loop_body : (g : Node) → node_kind g ≡ Loop → 0 < length (children_of g)
+loop_body (block is) e = cc
+loop_body (select bool_cond v cs ds u) e = cc
+loop_body (select (spv_inst i) v cs ds u) e = cc
 loop_body (loop b c vs u) e = omega arith
-loop_body (exit i vs) e = absurd (omega arith)
+loop_body (exit i vs) e = cc
 
--- an exit's number is 4
-exit_number : (g : Node) → eqb (node_number g) 4 ≡ is_exit g
-exit_number (block is) = refl
-exit_number (select bool_cond v cs ds u) = refl
-exit_number (select (spv_inst i) v cs ds u) = refl
-exit_number (loop b c vs u) = refl
-exit_number (exit i vs) = refl
+-- an exit by its kind
+exit_is : (g : Node) → exit_kind (node_kind g) ≡ is_exit g
+exit_is (block is) = refl
+exit_is (select bool_cond v cs ds u) = refl
+exit_is (select (spv_inst i) v cs ds u) = refl
+exit_is (loop b c vs u) = refl
+exit_is (exit i vs) = refl
 
 -- the last of k + 1 nodes
 ends_some : (F : Func) (k : ℕ) (l : List ℕ) → length l ≡ suc k → is_exit (node_of F (get_or l k 0)) ≡ ends_in_exit F l
@@ -147,6 +149,9 @@ module _ (F : Func) (w : List ℕ) (s : Stored F w) (l : within_limits F ≡ tru
     ref_low : (n : ℕ) → every (λ x. ltb x n) xs ≡ true → (i : ℕ) → i < count k w → word k w i 0 < n
     ref_low n low i m = subst (λ x. x < n) (sym (ref_at i)) (ltb-true (get_or xs i 0) n (every_at (λ x. ltb x n) xs low i 0 (omega (arith, ref_count))))
 
+  kind_is : (n : ℕ) → n < length F.nodes → kind_in w n ≡ node_kind (node_of F n)
+  kind_is n m = ap node_kind_from (stored_kind s node_room n m) ∙ node_kind_law (node_of F n)
+
   children_few : length (child_list F) ≤ entry_room child_refs
   children_few = omega (arith, fits (length F.regions) (child_list F) (references F h).0 (tree F t).0, (limits F l).regions)
 
@@ -181,8 +186,8 @@ module _ (F : Func) (w : List ℕ) (s : Stored F w) (l : within_limits F ≡ tru
     node_low = λ i m. omega (arith, node_count, ref_low node_refs (node_list F) (lit< tt) refl refl nodes_few (length F.nodes) (references F h).1 i m);
   }
     where
-      body : (n : ℕ) → n < length F.nodes → word nodes w n 0 ≡ 3 → 0 < child_count_in w n
-      body n m e = omega (arith, list_count (kids n m), loop_body (node_of F n) (sym (stored_kind s node_room n m) ∙ e))
+      body : (n : ℕ) → n < length F.nodes → kind_in w n ≡ Loop → 0 < child_count_in w n
+      body n m e = omega (arith, list_count (kids n m), loop_body (node_of F n) (sym (kind_is n m) ∙ e))
 
   -- a region's counts
   ins_are : (c : ℕ) → c < length F.regions → ins_in w c ≡ length (region_of F c).ins
@@ -212,11 +217,11 @@ module _ (F : Func) (w : List ℕ) (s : Stored F w) (l : within_limits F ≡ tru
       by_length_law (suc k) e =
           let here : node_in w c k ≡ get_or ns k 0 = ap (λ (z : List ℕ). get_or z 0 0) (item_is (nodes_of c m) k (omega arith) 0 {at = word regions w c 1 / 4096 + k} refl) in
           let below : get_or ns k 0 < length F.nodes = ltb-true _ _ (every_at (λ x. ltb x (length F.nodes)) ns low k 0 (omega arith)) in
-          ap (λ (x : ℕ). eqb (word nodes w x 0) 4) here ∙ ap (λ (x : ℕ). eqb x 4) (stored_kind s node_room (get_or ns k 0) below) ∙ exit_number (node_of F (get_or ns k 0)) ∙ ends_some F k ns e
+          ap (λ (x : ℕ). exit_kind (kind_in w x)) here ∙ ap exit_kind (kind_is (get_or ns k 0) below) ∙ exit_is (node_of F (get_or ns k 0)) ∙ ends_some F k ns e
 
   -- what the row of node n says, where the node is g
   record Row (n : ℕ) (g : Node) : Type 0 where
-    kind : word nodes w n 0 ≡ node_number g
+    kind : kind_in w n ≡ node_kind g
     vals : value_count_in w n ≡ length (node_values g)
     kids : Listed child_refs one_word (children_of g) w (word nodes w n 5)
     outs : outs_in w n ≡ length (outs_of g)
@@ -225,7 +230,7 @@ module _ (F : Func) (w : List ℕ) (s : Stored F w) (l : within_limits F ≡ tru
   row : (n : ℕ) → n < length F.nodes → Row n (node_of F n)
   unfolding child_list
   row n m = record {
-    kind = stored_kind s node_room n m;
+    kind = kind_is n m;
     vals = values_count s node_room n m value_room;
     kids = kids n m;
     outs = outs_count s node_room n m decl_room;

@@ -4,6 +4,9 @@
 --     CountsSafe      what the code needs to stay within the slice
 use Rattle.std.specs.Prelude.{◌≡◌, Bool, true, false, cond, ◌&&◌, ◌||◌, List, ℕ, zero, suc, ◌+◌, ◌/◌, ◌%◌, ◌≤◌, ◌<◌, eqb, leb, ltb, length}
 use Rattle.general_laws.specs.Lists.{below, every}
+use Rattle.func.specs.declared.NodeKind.{NodeKind}
+use Rattle.func.specs.declared.NodeKind.TheVariants.{Block, SelectBool, SelectInst, Loop, Exit}
+use Rattle.func.specs.Kinds.{node_kind_from}
 use Rattle.func.specs.Layout.{func_need, params, node_refs, child_refs, regions, nodes, ctrls, entry_room}
 use Rattle.func.specs.Store.{count}
 use Rattle.func.specs.Tables.{word}
@@ -34,10 +37,21 @@ node_count_in w r = word regions w r 1 % 4096
 abbrev pub node_in : List ℕ → ℕ → ℕ → ℕ
 node_in w r i = word node_refs w (word regions w r 1 / 4096 + i) 0
 
+-- the kind of node n
+abbrev pub kind_in : List ℕ → ℕ → NodeKind
+kind_in w n = node_kind_from (word nodes w n 0)
+
 -- the last of region r's m nodes is an exit
+abbrev pub exit_kind : NodeKind → Bool
+exit_kind Block = false
+exit_kind SelectBool = false
+exit_kind SelectInst = false
+exit_kind Loop = false
+exit_kind Exit = true
+
 abbrev pub ends_at : List ℕ → ℕ → ℕ → Bool
 ends_at w r zero = false
-ends_at w r (suc k) = eqb (word nodes w (node_in w r k) 0) 4
+ends_at w r (suc k) = exit_kind (kind_in w (node_in w r k))
 
 abbrev pub ends_test : List ℕ → ℕ → Bool
 ends_test w r = ends_at w r (node_count_in w r)
@@ -56,14 +70,16 @@ body_test w n c = eqb (value_count_in w n) (ins_in w c + 1) && eqb (results_in w
 unfoldable pub cases_test : List ℕ → ℕ → Bool
 cases_test w n = every (λ i. case_test w n (child_in w n i)) (below (child_count_in w n))
 
--- node n fits, whose kind's number is k
-abbrev pub node_kind_test : List ℕ → ℕ → ℕ → Bool
-node_kind_test w n k =
-    cond (eqb k 3) (body_test w n (child_in w n 0))
-    (cond (eqb k 1) (eqb (child_count_in w n) 2 && cases_test w n) (cond (eqb k 2) (ltb 0 (child_count_in w n) && cases_test w n) true))
+-- node n fits, by its kind
+abbrev pub node_kind_test : List ℕ → ℕ → NodeKind → Bool
+node_kind_test w n Block = true
+node_kind_test w n SelectBool = eqb (child_count_in w n) 2 && cases_test w n
+node_kind_test w n SelectInst = ltb 0 (child_count_in w n) && cases_test w n
+node_kind_test w n Loop = body_test w n (child_in w n 0)
+node_kind_test w n Exit = true
 
 abbrev pub node_test : List ℕ → ℕ → Bool
-node_test w n = node_kind_test w n (word nodes w n 0)
+node_test w n = node_kind_test w n (kind_in w n)
 
 unfoldable pub nodes_test : List ℕ → Bool
 nodes_test w = every (node_test w) (below (count nodes w))
@@ -86,7 +102,7 @@ pub record CountsSafe (w : List ℕ) : Type 0 where
   -- the children of a node stand in their pool, and each is a region
   pub child_runs : (n : ℕ) → n < count nodes w → word nodes w n 5 / 4096 + child_count_in w n ≤ count child_refs w
   pub child_low : (i : ℕ) → i < count child_refs w → word child_refs w i 0 < count regions w
-  pub loop_child : (n : ℕ) → n < count nodes w → word nodes w n 0 ≡ 3 → 0 < child_count_in w n
+  pub loop_child : (n : ℕ) → n < count nodes w → kind_in w n ≡ Loop → 0 < child_count_in w n
   -- the nodes of a region stand in theirs, and each is a node
   pub ref_room : count node_refs w ≤ entry_room node_refs
   pub region_runs : (r : ℕ) → r < count regions w → word regions w r 1 / 4096 + node_count_in w r ≤ count node_refs w

@@ -5,10 +5,10 @@
 ghost use Rattle.std.specs.Prelude.{◌≡◌, ◌<◌};
 ghost use Rattle.func.specs.Layout.{nodes, regions};
 ghost use Rattle.func.specs.Store.{count};
-ghost use Rattle.func.specs.Tables.{word};
-ghost use Rattle.check_counts.specs.Test.{child_count_in, child_in, ends_test, case_test, body_test, cases_test, node_test, nodes_test, func_test, counts_test, CountsSafe};
+ghost use Rattle.check_counts.specs.Test.{child_count_in, child_in, kind_in, ends_test, case_test, body_test, cases_test, node_test, nodes_test, func_test, counts_test, CountsSafe};
 
-use func_pools::{CTRLS, NODES, PARAMS, REGIONS, count, wide};
+use func::NodeKind;
+use func_pools::{CTRLS, NODES, PARAMS, REGIONS, count};
 use func_rows::{
     row_child, row_children, row_ins, row_kind, row_node, row_nodes, row_outs, row_results,
     row_values,
@@ -25,7 +25,7 @@ fn ends_in_exit(func: &[u32], c: usize) -> bool
         return false;
     }
     let n = row_node(func, c, m - 1);
-    row_kind(func, n) == 4
+    row_kind(func, n) == NodeKind::Exit
 }
 
 // Case i of select n has no inputs, and as many outputs as the node, or none where its last node is an exit.
@@ -35,17 +35,8 @@ fn case_fits(func: &[u32], n: usize, i: usize) -> bool
     ensures { result ≡ case_test func.now n (child_in func.now n i) }
 {
     let c = row_child(func, n, i);
-    if row_ins(func, c) != 0 {
-        return false;
-    }
     let r = row_results(func, c);
-    if r == row_outs(func, n) {
-        return true;
-    }
-    if r != 0 {
-        return false;
-    }
-    ends_in_exit(func, c)
+    row_ins(func, c) == 0 && (r == row_outs(func, n) || r == 0 && ends_in_exit(func, c))
 }
 
 // All cases do.
@@ -55,28 +46,18 @@ fn cases_fit(func: &[u32], n: usize) -> bool
     ensures { result ≡ cases_test func.now n }
 {
     let m = row_children(func, n);
-    let mut i = 0;
-    while i < m {
-        if !case_fits(func, n, i) {
-            return false;
-        }
-        i += 1;
-    }
-    true
+    (0..m).all(|i| case_fits(func, n, i))
 }
 
 // Loop n has a value for its condition and one for each input of its body, which has as many outputs as inputs.
 fn loop_fits(func: &[u32], n: usize) -> bool
     requires counts_safe { CountsSafe func.now }
-    requires n_bound { (n < count nodes func.now) × (word nodes func.now n 0 ≡ 3) }
+    requires n_bound { (n < count nodes func.now) × (kind_in func.now n ≡ NodeKind.Loop) }
     ensures { result ≡ body_test func.now n (child_in func.now n 0) }
 {
     let c = row_child(func, n, 0);
     let ins = row_ins(func, c);
-    if row_values(func, n) != ins + 1 {
-        return false;
-    }
-    row_results(func, c) == ins
+    row_values(func, n) == ins + 1 && row_results(func, c) == ins
 }
 
 // Node n fits by its kind.
@@ -85,24 +66,13 @@ fn node_fits(func: &[u32], n: usize) -> bool
     requires n_bound { n < count nodes func.now }
     ensures { result ≡ node_test func.now n }
 {
-    let k = row_kind(func, n);
-    if k == 3 {
-        return loop_fits(func, n);
+    match row_kind(func, n) {
+        NodeKind::Block => true,
+        NodeKind::SelectBool => row_children(func, n) == 2 && cases_fit(func, n),
+        NodeKind::SelectInst => 0 < row_children(func, n) && cases_fit(func, n),
+        NodeKind::Loop => loop_fits(func, n),
+        NodeKind::Exit => true,
     }
-    let m = row_children(func, n);
-    if k == 1 {
-        if m != 2 {
-            return false;
-        }
-        return cases_fit(func, n);
-    }
-    if k == 2 {
-        if m == 0 {
-            return false;
-        }
-        return cases_fit(func, n);
-    }
-    true
 }
 
 // All nodes do.
@@ -110,18 +80,12 @@ fn nodes_fit(func: &[u32]) -> bool
     requires { CountsSafe func.now }
     ensures { result ≡ nodes_test func.now }
 {
-    let m = wide(count(func, NODES));
-    let mut n = 0;
-    while n < m {
-        if !node_fits(func, n) {
-            return false;
-        }
-        n += 1;
-    }
-    true
+    let m = count(func, NODES) as usize;
+    (0..m).all(|n| node_fits(func, n))
 }
 
 // The body has the parameters for inputs and one output at most, none with ctrl lines. An imported function has no body.
+#[tactic(auto, unfolding(crate::specs::Test::func_test))]
 fn body_fits(func: &[u32]) -> bool
     requires { CountsSafe func.now }
     ensures { result ≡ func_test func.now }
@@ -129,7 +93,7 @@ fn body_fits(func: &[u32]) -> bool
     if count(func, REGIONS) == 0 {
         return true;
     }
-    let p = wide(count(func, PARAMS));
+    let p = count(func, PARAMS) as usize;
     if row_ins(func, 0) != p {
         return false;
     }
@@ -141,12 +105,10 @@ fn body_fits(func: &[u32]) -> bool
 }
 
 // The text in the function slice passes refusal 6, but for its ctrl lines.
+#[tactic(auto, unfolding(crate::specs::Test::counts_test))]
 pub fn counts(func: &[u32]) -> bool
     requires { CountsSafe func.now }
     ensures { result ≡ counts_test func.now }
 {
-    if !body_fits(func) {
-        return false;
-    }
-    nodes_fit(func)
+    body_fits(func) && nodes_fit(func)
 }

@@ -5,40 +5,17 @@ use mathlib.Core.List.{List, ◌++◌}
 use Prim.Native.Nat.{ℕ, suc, ◌+◌, ◌-◌, ◌/◌, ◌%◌, ◌≤◌, ◌<◌}
 use native.Mathlib.Decide.{ℕ_discrete}
 use native.Mathlib.Omega.{arith}
-use lib.Dec.{eqb, lit<}
+use lib.Dec.{eqb}
 use lib.ListN.{length, set, length-set}
 use borrow.Author.Tests.{eqb-true, eqb-false}
-use Rattle.general_laws.specs.Lists.{below, gather}
+use Rattle.general_laws.specs.Lists.{gather}
 use Rattle.func.specs.Layout.{node_refs, child_refs, regions, nodes}
-use Rattle.func.specs.Store.{count}
-use Rattle.func.specs.Tables.{Within, word}
+use Rattle.func.specs.Tables.{word}
 use Rattle.work.specs.Layout.{stamps_at, work_need}
-use Rattle.work.specs.Aside.{Cleared}
 use Rattle.general_laws.specs.Tests.{split}
-use Rattle.check_marks.specs.Test.{pool_numbers, child_refs_in, kids, parent_in, acyclic, ListsWhole}
-use Rattle.check_marks.specs.Marks.{Run, ClearBelow, mark_all, mark_done, mark_append, numbers_first, numbers_next, numbers_done, parent_table, table_is, parent_low}
+use Rattle.check_marks.specs.Test.{pool_numbers, child_refs_in, kids, parent_in, acyclic}
+use Rattle.check_marks.specs.Marks.{ClearBelow, mark_all, mark_done, mark_append, numbers_first, numbers_next, numbers_done, parent_table, table_is, parent_low}
 use Rattle.check_cycles.specs.Stamps.{parent, stamp, OutwardEnd, Way, free, Stamped, Climbed, way_one, way_on, way_out_law, out_root, found_cycle, all_clean, acyclic_same, stamped_same, free_low, free_less, stamp_same, stamp_other, parent_other}
-
--- the children of a node may be read
-module _ (w : List ℕ) (s : ListsWhole w) where
-  pub region_in : (r : ℕ) → r < count regions w → Within regions w r
-  region_in r h = record { size = s.safe.size; pool = lit< tt; fits = s.safe.region_room; below = h }
-
-  pub node_ref_in : (r i : ℕ) → r < count regions w → i < word regions w r 1 % 4096 → Within node_refs w (word regions w r 1 / 4096 + i)
-  node_ref_in r i h l = record { size = s.safe.size; pool = lit< tt; fits = s.nodes_fit; below = omega (arith, s.safe.region_runs s.nodes_fit r h) }
-
-  pub node_in_law : (at x : ℕ) → Within node_refs w at → x ≡ word node_refs w at 0 → Within nodes w x
-  node_in_law at x h e = record { size = s.safe.size; pool = lit< tt; fits = s.safe.node_room; below = omega (arith, s.safe.node_refs_law.named s.nodes_fit at h.below) }
-
-  pub kids_run : (x at n m : ℕ) → Within nodes w x → at ≡ word nodes w x 5 / 4096 + 0 → n ≡ word nodes w x 5 % 4096 → work_need ≤ m → Run child_refs w at n m
-  kids_run x at n m h e q g = record {
-    read = λ i a b. record { size = s.safe.size; pool = lit< tt; fits = s.children_fit; below = under i b };
-    first = lit< tt;
-    low = λ i a b. omega (arith, s.safe.child_refs_law.named s.children_fit i (under i b), s.safe.child_refs_law.low);
-  }
-    where
-      under : (i : ℕ) → i < at + n → i < count child_refs w
-      under i b = omega (arith, s.safe.node_runs s.children_fit x h.below)
 
 -- the loop over a region's nodes
 module _ (w : List ℕ) (v : ℕ) where
@@ -64,21 +41,6 @@ module _ (w : List ℕ) (v : ℕ) where
   pub adopt_done : (a i n : ℕ) (u : List ℕ) → n ≤ i → mark_all (gather (child_refs_in w) (pool_numbers node_refs w a (n - i))) v u ≡ u
   adopt_done a i n u h = ap (λ (l : List ℕ). mark_all (gather (child_refs_in w) l) v u) (numbers_done node_refs w a i n h) ∙ mark_done v u
 
--- the stamps are cleared: w is what the work slice was
-pub stamps_cleared : (n : ℕ) (w u : List ℕ) → n ≤ stamps_at → work_need ≤ length w → ((c : ℕ) → c < n → parent w c ≤ n) → length u ≡ length w
-    → Cleared stamps_at (stamps_at + n) w u → Stamped (parent w) n 0 u
-stamps_cleared n w u h l g e z =
-    let blank : (c : ℕ) → c < n → stamp u c ≡ 0 = λ c b. z.blank (stamps_at + c) (omega arith) (omega arith) in
-    record {
-      few = h;
-      size = omega (arith, e);
-      low = g;
-      same = λ c b. z.aside.before c (omega arith);
-      old = λ c b. omega (arith, blank c b);
-      seen = λ c b. absurd (omega arith);
-      out = λ c b s. absurd (omega (arith, blank c b));
-    }
-
 -- A climb from region r is at region `at`: from each region that it has stamped the way leads there, in no more steps than it stamped regions.
 pub record Climb (p : ℕ → ℕ) (n r at : ℕ) (u : List ℕ) : Type 0 where
   pub few : n ≤ stamps_at
@@ -93,20 +55,6 @@ pub record Climb (p : ℕ → ℕ) (n r at : ℕ) (u : List ℕ) : Type 0 where
   pub back : (c : ℕ) → c < n → stamp u c ≡ r + 1 → (i : ℕ) × (0 < i) × (i + free u n ≤ n) × Way p i c at
 
 module _ (p : ℕ → ℕ) (n r : ℕ) where
-  pub climb_first : (u : List ℕ) → r < n → Stamped p n r u → Climb p n r r u
-  climb_first u h s = record {
-    few = s.few;
-    size = s.size;
-    low = s.low;
-    same = s.same;
-    here = h;
-    old = λ c l. omega (arith, s.old c l);
-    seen = s.seen;
-    start = λ e. absurd (e refl);
-    out = λ c l z o. s.out c l z;
-    back = λ c l e. absurd (omega (arith, s.old c l));
-  }
-
   -- where the climb stops
   module _ (at : ℕ) (u : List ℕ) (k : Climb p n r at u) where
     -- where the region here has a way out, each region with a stamp has one

@@ -10,7 +10,7 @@ ghost use Rattle.check_marks.specs.Marks.{mark_all, parent_table};
 ghost use Rattle.check_cycles.specs.Stamps.{parent, Stamped, Climbed};
 
 use check_marks::mark_run;
-use func_pools::{CHILD_REFS, REGIONS, count, wide};
+use func_pools::{CHILD_REFS, REGIONS, count};
 use func_rows::{row_child_at, row_children, row_node, row_nodes};
 use work::{STAMPS, clear};
 
@@ -23,8 +23,7 @@ fn adopt(func: &[u32], r: usize, work: &mut [u32])
 {
     let v = (r + 1) as u32;
     let n = row_nodes(func, r);
-    let mut i = 0;
-    while i < n {
+    for i in 0..n {
         let x = row_node(func, r, i);
         mark_run(
             func,
@@ -34,7 +33,6 @@ fn adopt(func: &[u32], r: usize, work: &mut [u32])
             v,
             work,
         );
-        i += 1;
     }
 }
 
@@ -45,10 +43,8 @@ fn adopt_all(func: &[u32], n: usize, work: &mut [u32])
     ensures work_after { work.new ≡ parent_table func.now n work.old }
     ensures work_len_unchanged { length work.new ≡ length work.old }
 {
-    let mut r = 0;
-    while r < n {
+    for r in 0..n {
         adopt(func, r, work);
-        r += 1;
     }
 }
 
@@ -73,7 +69,7 @@ fn climbs_back(work: &mut [u32], r: usize, n: usize) -> bool
     let mut at = r;
     while work[STAMPS + at] == 0 {
         work[STAMPS + at] = own;
-        let p = wide(work[at]);
+        let p = work[at] as usize;
         if p == 0 {
             return false;
         }
@@ -89,12 +85,10 @@ fn none_around(work: &mut [u32], n: usize) -> bool
     ensures value { result ≡ acyclic (parent work.old) n }
     ensures work_len_unchanged { length work.new ≡ length work.old }
 {
-    let mut r = 0;
-    while r < n {
+    for r in 0..n {
         if climbs_back(work, r, n) {
             return false;
         }
-        r += 1;
     }
     true
 }
@@ -106,7 +100,7 @@ pub fn no_cycle(func: &[u32], work: &mut [u32]) -> bool
     ensures value { result ≡ cycle_test func.now }
     ensures work_len_unchanged { length work.new ≡ length work.old }
 {
-    let n = wide(count(func, REGIONS));
+    let n = count(func, REGIONS) as usize;
     clear(work, 0, n);
     adopt_all(func, n, work);
     clear_stamps(work, n);

@@ -10,34 +10,33 @@ ghost use Rattle.work.specs.Layout.{work_need};
 ghost use Rattle.check_edges.specs.Edges.{ins_of, mark_entry, target_entered, targets_fit};
 
 use func_look::target_ref;
-use func_pools::{REGIONS, TARGETS, VALUES, count, wide};
+use func_pools::{REGIONS, TARGETS, VALUES, count};
 use func_rows::row_ins;
 use refusals::limits::{MAX_REGIONS, MAX_TARGETS};
 use work::{ENTERED, word};
 
 // How many inputs region r has.
+#[tactic(auto, unfolding(crate::specs::Edges::ins_of))]
 fn ins_of(func: &[u32], r: usize) -> usize
     requires { func_need ≤ length func.now }
     ensures { (result ≡ ins_of func.now r) × (result ≤ 4095) }
 {
     let n = count(func, REGIONS);
-    if MAX_REGIONS < n {
-        return 0;
-    }
-    if wide(n) <= r {
+    if MAX_REGIONS < n || n as usize <= r {
         return 0;
     }
     row_ins(func, r)
 }
 
 // Region r has an entry in this line.
+#[tactic(auto, unfolding(crate::specs::Edges::mark_entry))]
 pub fn mark(work: &mut [u32], line: u32, r: u32)
     requires { work_need ≤ length work.old }
     ensures work_after { work.new ≡ mark_entry line r work.old }
     ensures work_len_unchanged { length work.new ≡ length work.old }
 {
     if r < MAX_REGIONS {
-        work[ENTERED + wide(r)] = line;
+        work[ENTERED + r as usize] = line;
     }
 }
 
@@ -46,38 +45,27 @@ pub fn values_fit(func: &[u32], n: u32, r: u32) -> bool
     requires { func_need ≤ length func.now }
     ensures { result ≡ eqb (n + ins_of func.now r) (count values func.now) }
 {
-    let ins = ins_of(func, wide(r));
-    wide(n) + ins == wide(count(func, VALUES))
+    let ins = ins_of(func, r as usize);
+    n as usize + ins == count(func, VALUES) as usize
 }
 
 // Target i of all has an entry in this line, or its region has no inputs.
+#[tactic(auto, using(crate::proofs::Laws::ins_low), unfolding(crate::specs::Edges::target_entered))]
 fn target_fits(func: &[u32], work: &[u32], line: u32, i: usize) -> bool
     requires func_need_in_bounds { (func_need ≤ length func.now) × (work_need ≤ length work.now) }
     requires func_bound { (count targets func.now ≤ max_targets) × (i < count targets func.now) }
     ensures { result ≡ target_entered func.now work.now line i }
 {
     let t = target_ref(func, i);
-    if ins_of(func, t) == 0 {
-        return true;
-    }
-    word(work, ENTERED, t) == line
+    ins_of(func, t) == 0 || word(work, ENTERED, t) == line
 }
 
 // So does each target of this line, the first of which is target `from` of all.
+#[tactic(auto, unfolding(crate::specs::Edges::targets_fit))]
 pub fn targets_fit(func: &[u32], work: &[u32], line: u32, from: u32) -> bool
     requires { (func_need ≤ length func.now) × (work_need ≤ length work.now) }
     ensures { result ≡ targets_fit func.now work.now line from }
 {
     let n = count(func, TARGETS);
-    if MAX_TARGETS < n {
-        return true;
-    }
-    let mut i = wide(from);
-    while i < wide(n) {
-        if !target_fits(func, work, line, i) {
-            return false;
-        }
-        i += 1;
-    }
-    true
+    MAX_TARGETS < n || (from as usize..n as usize).all(|i| target_fits(func, work, line, i))
 }

@@ -2,22 +2,12 @@
 use mathlib.Core.Path.{◌≡◌, refl, ap, ◌∙◌}
 use mathlib.Core.Bool.{Bool, true, ◌||◌}
 use mathlib.Core.List.{List, [], ◌∷◌}
-use Prim.Native.Nat.{ℕ, zero, suc}
+use Prim.Native.Nat.{ℕ}
 use native.Mathlib.Decide.{ℕ_discrete}
-use lib.Dec.{ltb, eqb}
+use lib.Dec.{eqb}
 use borrow.Author.Tests.{eq-eqb, ne_eqb}
 use Rattle.opcodes.specs.Table.{among}
 use Rattle.general_laws.specs.Lists.{choose, within}
-use Rattle.check_insts.specs.Test.{callee_test, op_inst_test}
-
--- an op that is no INST
-pub callee_rest : (k a : ℕ) → (k ≡ 0 → ⊥) → ltb 0 a ≡ callee_test k a
-callee_rest zero a n = absurd (n refl)
-callee_rest (suc k) a n = refl
-
-pub op_inst_rest : (k a : ℕ) → (k ≡ 0 → ⊥) → true ≡ op_inst_test k a
-op_inst_rest zero a n = absurd (n refl)
-op_inst_rest (suc k) a n = refl
 
 -- a number stands in a list: the opcode table's test is the definitions'
 one_more : {n x : ℕ} {b c : Bool} (d : Dec (n ≡ x)) → b ≡ c → (eqb n x || b) ≡ choose d true c

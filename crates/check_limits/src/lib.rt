@@ -12,11 +12,11 @@ use refusals::limits::{
     MAX_TARGETS, MAX_VALUES,
 };
 
-// Both of two.
+// Both of two, as check_ctrls, check_text and read_ctrls ask it.
 pub fn both(a: bool, b: bool) -> bool
     ensures { result ≡ (a && b) }
 {
-    if a { b } else { false }
+    a && b
 }
 
 // Pool k was given at most n entries.
@@ -28,19 +28,18 @@ fn at_most(func: &[u32], k: usize, n: u32) -> bool
 }
 
 // The text passes 3.
+#[tactic(auto, unfolding(crate::specs::Limits::limits_test))]
 pub fn limits(func: &[u32]) -> bool
     requires { func_need ≤ length func.now }
     ensures { result ≡ limits_test func.now }
 {
-    let a = both(
-        at_most(func, REGIONS, MAX_REGIONS),
-        at_most(func, NODES, MAX_NODES),
-    );
-    let b = both(a, at_most(func, OPS, MAX_OPS));
-    let c = both(b, at_most(func, CONSTS, MAX_CONSTS));
-    let d = both(c, at_most(func, PARAMS, MAX_PARAMS));
-    let e = both(d, at_most(func, VALUES, MAX_VALUES));
-    let f = both(e, at_most(func, DECLS, MAX_DECLS));
-    let g = both(f, at_most(func, IMMS, MAX_IMMEDIATES));
-    both(g, at_most(func, TARGETS, MAX_TARGETS))
+    at_most(func, REGIONS, MAX_REGIONS)
+        && at_most(func, NODES, MAX_NODES)
+        && at_most(func, OPS, MAX_OPS)
+        && at_most(func, CONSTS, MAX_CONSTS)
+        && at_most(func, PARAMS, MAX_PARAMS)
+        && at_most(func, VALUES, MAX_VALUES)
+        && at_most(func, DECLS, MAX_DECLS)
+        && at_most(func, IMMS, MAX_IMMEDIATES)
+        && at_most(func, TARGETS, MAX_TARGETS)
 }

@@ -1,7 +1,7 @@
 // Marks in the work slice: the words that some numbers of the function slice name.
 #![tactic(auto)]
 
-ghost use Rattle.std.specs.Prelude.{◌≡◌, ◌+◌, ◌<◌, length};
+ghost use Rattle.std.specs.Prelude.{◌≡◌, ◌+◌, length};
 ghost use Rattle.check_marks.specs.Test.{pool_numbers};
 ghost use Rattle.check_marks.specs.Marks.{Run, mark_all};
 
@@ -13,10 +13,8 @@ pub fn mark_run(func: &[u32], k: usize, at: usize, n: usize, v: u32, work: &mut 
     ensures work_after { work.new ≡ mark_all (pool_numbers k func.now at n) v work.old }
     ensures work_len_unchanged { length work.new ≡ length work.old }
 {
-    let mut i = 0;
-    while i < n {
+    for i in 0..n {
         let x = row_ref(func, k, at + i);
         work[x] = v;
-        i += 1;
     }
 }

@@ -9,7 +9,7 @@ ghost use Rattle.work.specs.Layout.{work_need};
 ghost use Rattle.check_marks.specs.Test.{pool_numbers, refs, once_test, child_fit, child_test, Refs, TreeSafe};
 ghost use Rattle.check_marks.specs.Marks.{Run, fresh_marks};
 
-use func_pools::{CHILD_REFS, CTRLS, NODES, REGIONS, count, wide};
+use func_pools::{CHILD_REFS, CTRLS, NODES, REGIONS, count};
 use func_rows::{row_child, row_children, row_ref};
 use work::clear;
 
@@ -19,14 +19,12 @@ fn all_fresh(func: &[u32], k: usize, n: usize, work: &mut [u32]) -> bool
     ensures value { result ≡ fresh_marks (pool_numbers k func.now 0 n) work.old }
     ensures work_len_unchanged { length work.new ≡ length work.old }
 {
-    let mut i = 0;
-    while i < n {
+    for i in 0..n {
         let x = row_ref(func, k, i);
         if work[x] == 1 {
             return false;
         }
         work[x] = 1;
-        i += 1;
     }
     true
 }
@@ -42,8 +40,8 @@ pub fn stands_once(func: &[u32], k: usize, p: usize, work: &mut [u32]) -> bool
     if count(func, k) != n {
         return false;
     }
-    clear(work, 0, wide(n));
-    all_fresh(func, k, wide(n), work)
+    clear(work, 0, n as usize);
+    all_fresh(func, k, n as usize, work)
 }
 
 // Goes through the nodes and their child regions, up to the first region that has a parent already: its word is marked.
@@ -53,22 +51,18 @@ fn one_parent(func: &[u32], work: &mut [u32]) -> bool
     ensures value { result ≡ fresh_marks (refs child_refs func.now) work.old }
     ensures work_len_unchanged { length work.new ≡ length work.old }
 {
-    let total = wide(count(func, NODES));
+    let total = count(func, NODES) as usize;
     let mut once = true;
-    let mut n: usize = 0;
-    'nodes: while n < total {
+    'nodes: for n in 0..total {
         let m = row_children(func, n);
-        let mut i: usize = 0;
-        'children: while i < m {
+        'children: for i in 0..m {
             let c = row_child(func, n, i);
             if work[c] == 1 {
                 once = false;
                 break 'nodes;
             }
             work[c] = 1;
-            i += 1;
         }
-        n += 1;
     }
     once
 }
@@ -96,13 +90,10 @@ pub fn children_once(func: &[u32], work: &mut [u32]) -> bool
 {
     let n = count(func, REGIONS);
     let c = count(func, CHILD_REFS);
-    if n < c {
+    if n < c || !child_fit(n, c, count(func, CTRLS)) {
         return false;
     }
-    if !child_fit(n, c, count(func, CTRLS)) {
-        return false;
-    }
-    clear(work, 0, wide(n));
+    clear(work, 0, n as usize);
     work[0] = 1;
     one_parent(func, work)
 }

@@ -16,7 +16,7 @@ use Rattle.lifting.specs.Ast.{Value, const, region_input, node_output, data_inst
 use Rattle.lifting.specs.Parts.{outs_of, node_insts, op_insts, ctrl_insts, callee_ids}
 use Rattle.lifting.specs.Parts as text
 use Rattle.lifting.specs.References.{named, imm_fits, inst_fits, control_holds, references_hold}
-use Rattle.func.specs.Layout.{pool_total, consts, params, decls, values, imms, targets, node_refs, op_refs, child_refs, entries, regions, nodes, ops, ctrls, entry_room}
+use Rattle.func.specs.Layout.{pool_total, consts, targets, node_refs, op_refs, child_refs, entries, regions, nodes, ops, ctrls, entry_room}
 use Rattle.func.proofs.Pools.{inside, entry_room_law}
 use Rattle.func.specs.Store.{count, most, view}
 use Rattle.func.specs.Adds.{largest}

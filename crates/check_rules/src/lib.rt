@@ -9,14 +9,15 @@ ghost use Rattle.check_rules.specs.Test.{pool_for, rule_test, all_test};
 use check_insts::{callee_given, imm_fits, op_inst_fits, opcode_fits};
 use check_values::named;
 use func_look::{imm, value};
-use func_pools::{CONSTS, DECLS, IMMS, NODES, OPS, PARAMS, VALUES, count, wide};
+use func_pools::{CONSTS, DECLS, IMMS, NODES, OPS, PARAMS, VALUES, count};
 use func_rows::{
-    row_const_id, row_const_opcode, row_control, row_decl_type, row_op_first, row_op_kind,
-    row_opcode, row_param_type,
+    row_const_id, row_const_opcode, row_control, row_decl_type, row_op_kind, row_opcode,
+    row_param_type,
 };
 use refusals::limits::{MAX_CONTROL, MAX_OPCODE};
 
-// What refusal 4 asks of one entry of a pool.
+// What refusal 4 asks of one entry of a pool. A name for each rule and no closure: the definitions name the rules one by one, and a contract over
+// a closure would have to say beside each call what `rule_test` says here once.
 #[derive(Clone, Copy)]
 pub enum Rule {
     // a value names something
@@ -66,12 +67,12 @@ fn holds(func: &[u32], rule: Rule, i: usize) -> bool
         Rule::ConstId => 0 < row_const_id(func, i),
         Rule::ParamType => 0 < row_param_type(func, i),
         Rule::DeclType => 0 < row_decl_type(func, i),
-        Rule::Callee => callee_given(row_op_kind(func, i), row_op_first(func, i)),
+        Rule::Callee => callee_given(row_op_kind(func, i)),
         Rule::ConstOpcode => row_const_opcode(func, i) <= MAX_OPCODE,
         Rule::ImmFits => imm_fits(imm(func, i)),
         Rule::NodeControl => row_control(func, i) <= MAX_CONTROL,
         Rule::NodeInst => opcode_fits(row_opcode(func, i)),
-        Rule::OpInst => op_inst_fits(row_op_kind(func, i), row_op_first(func, i)),
+        Rule::OpInst => op_inst_fits(row_op_kind(func, i)),
     }
 }
 
@@ -80,13 +81,6 @@ pub fn all_hold(func: &[u32], rule: Rule) -> bool
     requires { LimitsReady func.now }
     ensures { result ≡ all_test func.now rule }
 {
-    let n = wide(count(func, pool_for(rule)));
-    let mut i = 0;
-    while i < n {
-        if !holds(func, rule, i) {
-            return false;
-        }
-        i += 1;
-    }
-    true
+    let n = count(func, pool_for(rule)) as usize;
+    (0..n).all(|i| holds(func, rule, i))
 }

@@ -10,20 +10,15 @@ use check_once::{children_once, stands_once};
 use func_pools::{NODE_REFS, NODES, OP_REFS, OPS};
 
 // The text in the function slice passes refusal 5.
+#[tactic(auto, unfolding(check_marks::specs::Test::tree_test))]
 pub fn is_tree(func: &[u32], work: &mut [u32]) -> bool
     requires tree_safe { TreeSafe func.now }
     requires work_need_in_bounds { work_need ≤ length work.old }
     ensures value { result ≡ tree_test func.now }
     ensures work_len_unchanged { length work.new ≡ length work.old }
 {
-    if !stands_once(func, NODE_REFS, NODES, work) {
-        return false;
-    }
-    if !stands_once(func, OP_REFS, OPS, work) {
-        return false;
-    }
-    if !children_once(func, work) {
-        return false;
-    }
-    no_cycle(func, work)
+    stands_once(func, NODE_REFS, NODES, work)
+        && stands_once(func, OP_REFS, OPS, work)
+        && children_once(func, work)
+        && no_cycle(func, work)
 }

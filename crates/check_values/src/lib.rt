@@ -8,41 +8,36 @@ ghost use Rattle.check_limits.specs.Limits.{LimitsReady};
 ghost use Rattle.check_values.specs.Test.{named_test};
 
 use func::Val;
-use func_pools::{CONSTS, NODES, OPS, REGIONS, count, wide};
+use func_pools::{CONSTS, NODES, OPS, REGIONS, count};
 use func_rows::{row_ins, row_outs, row_type};
 
 // A value that is an input, an output or a result names one.
+#[tactic(auto, unfolding(crate::specs::Test::named_test))]
 fn input_named(func: &[u32], r: u32, i: u32) -> bool
     requires { LimitsReady func.now }
     ensures { result ≡ named_test func.now (region_input r i) }
 {
-    if r < count(func, REGIONS) {
-        return wide(i) < row_ins(func, wide(r));
-    }
-    false
+    r < count(func, REGIONS) && (i as usize) < row_ins(func, r as usize)
 }
 
+#[tactic(auto, unfolding(crate::specs::Test::named_test))]
 fn output_named(func: &[u32], n: u32, i: u32) -> bool
     requires { LimitsReady func.now }
     ensures { result ≡ named_test func.now (node_output n i) }
 {
-    if n < count(func, NODES) {
-        return wide(i) < row_outs(func, wide(n));
-    }
-    false
+    n < count(func, NODES) && (i as usize) < row_outs(func, n as usize)
 }
 
+#[tactic(auto, unfolding(crate::specs::Test::named_test))]
 fn result_named(func: &[u32], o: u32) -> bool
     requires { LimitsReady func.now }
     ensures { result ≡ named_test func.now (data_inst_output o) }
 {
-    if o < count(func, OPS) {
-        return 0 < row_type(func, wide(o));
-    }
-    false
+    o < count(func, OPS) && 0 < row_type(func, o as usize)
 }
 
 // A value names something.
+#[tactic(auto, unfolding(crate::specs::Test::named_test))]
 pub fn named(func: &[u32], v: Val) -> bool
     requires { LimitsReady func.now }
     ensures { result ≡ named_test func.now (as_value v) }

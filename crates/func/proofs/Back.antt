@@ -29,7 +29,7 @@ use Rattle.func.proofs.Gains.{region_line_law, node_line_law, op_line_law, entry
 use Rattle.func.specs.Whole.{Clear, headed, with_consts, with_params, with_regions, with_nodes, with_ops, regions_gain, nodes_gain, ops_gain, ctrls_gain, func_gain, sizes}
 use Rattle.func.proofs.Whole.{clear_view, clear_head, stages, adds_func, gain_regions, gain_nodes, gain_ops, gain_ctrls, count_func, view_func, ready_clear}
 use Rattle.func.specs.Decode.{decode_number, decode_const, decode_decl, decode_imm, value_from, value_of, decls_at, values_at, imms_at, numbers_at, inst_at, node_from, op_from, ctrl_from, region_at, node_at, op_at, entry_at, ctrl_at, func_of}
-use Rattle.func.specs.Back.{lowered, first, first_fits, Fit, CtrlRow, RowFits, Limits, Rows}
+use Rattle.func.specs.Back.{lowered, first_fits, Fit, CtrlRow, RowFits, Limits, Rows}
 
 pair_back : (k a b : ℕ) → value_of (pair_words k a b) ≡ value_from k (min a 65535) b
 pair_back k a b =

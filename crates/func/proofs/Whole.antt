@@ -13,7 +13,7 @@ use Rattle.general_laws.specs.Lists.{gather}
 use Rattle.lifting.specs.Ast.{Value, Op, Decl, Node, Region, ControlInst, Const, Func}
 use Rattle.lifting.specs.Parts as text
 use Rattle.general_laws.specs.Gather.{map_append, map_gather, gather_none, gather_append, gather_gather, gather_single}
-use Rattle.func.specs.Layout.{func_need, pool_total, consts, params, decls, values, targets, entries, regions, nodes, ops, ctrls, room, entry_room}
+use Rattle.func.specs.Layout.{func_need, pool_total, consts, params, entries, regions, nodes, ops, ctrls, room, entry_room}
 use Rattle.func.proofs.Pools.{entry_room_law}
 use Rattle.func.specs.Store.{count, most, entry, view}
 use Rattle.func.specs.Adds.{AddsReady, Adds, into_pool, grown, largest}

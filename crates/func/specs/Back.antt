@@ -7,7 +7,7 @@ use Rattle.general_laws.specs.Lists.{every}
 use Rattle.lifting.specs.Limits.{max_regions, max_nodes, max_ops, max_consts, max_params, max_values, max_decls, max_immediates, max_targets, within_limits}
 use Rattle.lifting.specs.Ast.{Value, const, region_input, node_output, data_inst_output, ControlInst, Func}
 use Rattle.lifting.specs.Parts as text
-use Rattle.func.specs.Layout.{pool_total, consts, params, decls, values, imms, targets, node_refs, op_refs, child_refs, entries, regions, nodes, ops, ctrls, entry_room}
+use Rattle.func.specs.Layout.{pool_total, entries, regions, nodes, ops, ctrls, entry_room}
 use Rattle.func.specs.Store.{count, view}
 use Rattle.func.specs.Lines.{Piece, Row, RowsEach}
 use Rattle.func.specs.Keep.{region_cells, node_cells, op_cells, entry_cells, ctrl_cells}

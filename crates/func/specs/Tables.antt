@@ -11,7 +11,7 @@ use Rattle.general_laws.specs.Lists.{every}
 use Rattle.lifting.specs.Ast.{Value, Op, Decl, ControlInst, Func, unreachable}
 use Rattle.lifting.specs.Parts.{ctrl_insts}
 use Rattle.lifting.specs.Parts as text
-use Rattle.func.specs.Layout.{func_need, pool_total, params, values, ctrls, entry_room}
+use Rattle.func.specs.Layout.{func_need, pool_total, values, entry_room}
 use Rattle.func.specs.Store.{count, view}
 use Rattle.func.specs.Lines.{Piece}
 use Rattle.func.specs.Keep.{value_words, inst_opcode, op_number, op_first, op_second, ctrl_number}

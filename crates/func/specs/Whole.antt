@@ -5,7 +5,7 @@ use Rattle.std.proofs.lemmas.List.Edits.{sets}
 use Rattle.general_laws.specs.Lists.{gather}
 use Rattle.lifting.specs.Ast.{Value, Decl, Const, Func}
 use Rattle.lifting.specs.Parts as text
-use Rattle.func.specs.Layout.{func_need, pool_total, consts, params, decls, values, targets, regions, nodes, ops, ctrls}
+use Rattle.func.specs.Layout.{func_need, pool_total, consts, params}
 use Rattle.func.specs.Store.{count, most, folds}
 use Rattle.func.specs.Adds.{Adds, into_pool, grown}
 use Rattle.func.specs.Keep.{one_word, const_words, decl_words, imm_words, value_words, keep_const, keep_param, keep_head, keep_region, keep_node, keep_op, keep_ctrl, keep_func}

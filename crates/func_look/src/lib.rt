@@ -7,14 +7,14 @@ ghost use Rattle.func.specs.Store.{view};
 ghost use Rattle.func.specs.Keep.{inst_imms, inst_opcode};
 ghost use Rattle.lifting.specs.Ast.{const};
 ghost use Rattle.lifting.specs.Parts.{const_of, region_of, node_of, op_of, node_values, node_insts, block_ops, children_of, outs_of, node_control, op_insts, ctrl_insts};
-ghost use Rattle.func.specs.Decode.{decode_number, decode_decl, decode_imm, value_from, value_of, func_of};
+ghost use Rattle.func.specs.Decode.{decode_number, decode_decl, decode_imm, value_of, func_of};
 ghost use Rattle.func.specs.Tables.{Tables, Within, param_of, ctrl_line_of, entry_of};
-ghost use Rattle.func.specs.Kinds.{decl_of_slot, as_imm, node_kind, kind_of_op, ctrl_kind, node_kind_from, op_kind_from, ctrl_kind_from, decl_from, imm_from, as_value};
+ghost use Rattle.func.specs.Kinds.{decl_of_slot, as_imm, node_kind, kind_of_op, ctrl_kind, decl_from, imm_from, as_value};
 
 use func::{CtrlKind, Immediate, NodeKind, OpKind, Slot, Val};
 use func_pools::{
     CHILD_REFS, CONSTS, CTRLS, DECLS, ENTRIES, IMMS, NODE_REFS, NODES, OP_REFS, OPS, PARAMS,
-    REGIONS, TARGETS, VALUES, count, run_at, run_count, wide, word,
+    REGIONS, TARGETS, VALUES, count, run_at, run_count, word,
 };
 
 // Value i of the pool.
@@ -24,7 +24,7 @@ pub fn value(func: &[u32], i: usize) -> Val
 {
     let x = word(func, VALUES, i, 0);
     let b = word(func, VALUES, i, 1);
-    value_from(x / 65536, x % 65536, b)
+    Val::from_words(x / 65536, x % 65536, b)
 }
 
 // Input or output i of the pool.
@@ -55,7 +55,7 @@ pub fn target_ref(func: &[u32], i: usize) -> usize
     requires { Within targets func.now i }
     ensures { result ≡ decode_number (get_or (view targets func.now) i []) }
 {
-    wide(word(func, TARGETS, i, 0))
+    word(func, TARGETS, i, 0) as usize
 }
 
 // Number i of the pool of node lists.
@@ -63,7 +63,7 @@ pub fn node_ref(func: &[u32], i: usize) -> usize
     requires { Within node_refs func.now i }
     ensures { result ≡ decode_number (get_or (view node_refs func.now) i []) }
 {
-    wide(word(func, NODE_REFS, i, 0))
+    word(func, NODE_REFS, i, 0) as usize
 }
 
 // Number i of the pool of op lists.
@@ -71,7 +71,7 @@ pub fn op_ref(func: &[u32], i: usize) -> usize
     requires { Within op_refs func.now i }
     ensures { result ≡ decode_number (get_or (view op_refs func.now) i []) }
 {
-    wide(word(func, OP_REFS, i, 0))
+    word(func, OP_REFS, i, 0) as usize
 }
 
 // Number i of the pool of child regions.
@@ -79,54 +79,7 @@ pub fn child_ref(func: &[u32], i: usize) -> usize
     requires { Within child_refs func.now i }
     ensures { result ≡ decode_number (get_or (view child_refs func.now) i []) }
 {
-    wide(word(func, CHILD_REFS, i, 0))
-}
-
-// Kinds from their numbers.
-fn value_from(kind: u32, a: u32, b: u32) -> Val
-    ensures { as_value result ≡ value_from kind a b }
-{
-    match kind {
-        0 => Val::Const(a),
-        1 => Val::Input(a, b),
-        2 => Val::Output(a, b),
-        _ => Val::Result(a),
-    }
-}
-
-fn node_kind_of(k: u32) -> NodeKind
-    ensures { result ≡ node_kind_from k }
-{
-    match k {
-        0 => NodeKind::Block,
-        1 => NodeKind::SelectBool,
-        2 => NodeKind::SelectInst,
-        3 => NodeKind::Loop,
-        _ => NodeKind::Exit,
-    }
-}
-
-fn op_kind_of(k: u32, a: u32, b: u32) -> OpKind
-    ensures { result ≡ op_kind_from k a b }
-{
-    match k {
-        0 => OpKind::Inst(a),
-        1 => OpKind::Call(a),
-        _ => OpKind::Ext(a, b),
-    }
-}
-
-fn ctrl_kind_of(k: u32) -> CtrlKind
-    ensures { result ≡ ctrl_kind_from k }
-{
-    match k {
-        0 => CtrlKind::Unreachable,
-        1 => CtrlKind::Return,
-        2 => CtrlKind::Branch,
-        3 => CtrlKind::Bool,
-        4 => CtrlKind::Inst,
-        _ => CtrlKind::Exit,
-    }
+    word(func, CHILD_REFS, i, 0) as usize
 }
 
 // The func line's attributes.
@@ -166,7 +119,7 @@ pub fn const_total(func: &[u32]) -> usize
     requires { Tables func.now }
     ensures { result ≡ length (func_of func.now).consts }
 {
-    wide(count(func, CONSTS))
+    count(func, CONSTS) as usize
 }
 
 // How many parameters there are.
@@ -174,7 +127,7 @@ pub fn param_total(func: &[u32]) -> usize
     requires { Tables func.now }
     ensures { result ≡ length (func_of func.now).params }
 {
-    wide(count(func, PARAMS))
+    count(func, PARAMS) as usize
 }
 
 // How many regions there are.
@@ -182,7 +135,7 @@ pub fn region_total(func: &[u32]) -> usize
     requires { Tables func.now }
     ensures { result ≡ length (func_of func.now).regions }
 {
-    wide(count(func, REGIONS))
+    count(func, REGIONS) as usize
 }
 
 // How many nodes there are.
@@ -190,7 +143,7 @@ pub fn node_total(func: &[u32]) -> usize
     requires { Tables func.now }
     ensures { result ≡ length (func_of func.now).nodes }
 {
-    wide(count(func, NODES))
+    count(func, NODES) as usize
 }
 
 // How many ops there are.
@@ -198,7 +151,7 @@ pub fn op_total(func: &[u32]) -> usize
     requires { Tables func.now }
     ensures { result ≡ length (func_of func.now).ops }
 {
-    wide(count(func, OPS))
+    count(func, OPS) as usize
 }
 
 // How many ctrl lines there are.
@@ -206,7 +159,7 @@ pub fn ctrl_total(func: &[u32]) -> usize
     requires { Tables func.now }
     ensures { result ≡ length (func_of func.now).ctrls }
 {
-    wide(count(func, CTRLS))
+    count(func, CTRLS) as usize
 }
 
 // The id of constant i.
@@ -308,7 +261,7 @@ pub fn node_kind(func: &[u32], n: usize) -> NodeKind
     requires n_in_bounds { n < length (func_of func.now).nodes }
     ensures { result ≡ node_kind (node_of (func_of func.now) n) }
 {
-    node_kind_of(word(func, NODES, n, 0))
+    NodeKind::from(word(func, NODES, n, 0))
 }
 
 // The opcode of node n's INST.
@@ -448,7 +401,7 @@ pub fn op_kind(func: &[u32], o: usize) -> OpKind
     requires o_in_bounds { o < length (func_of func.now).ops }
     ensures { result ≡ kind_of_op (op_of (func_of func.now) o).kind }
 {
-    op_kind_of(
+    OpKind::from_words(
         word(func, OPS, o, 2),
         word(func, OPS, o, 3),
         word(func, OPS, o, 4),
@@ -499,7 +452,7 @@ pub fn ctrl_region(func: &[u32], c: usize) -> usize
     requires c_in_bounds { c < length (func_of func.now).ctrls }
     ensures { result ≡ (ctrl_line_of (func_of func.now) c).0 }
 {
-    wide(word(func, CTRLS, c, 0))
+    word(func, CTRLS, c, 0) as usize
 }
 
 // The attributes of ctrl line c.
@@ -517,7 +470,7 @@ pub fn ctrl_kind(func: &[u32], c: usize) -> CtrlKind
     requires c_in_bounds { c < length (func_of func.now).ctrls }
     ensures { result ≡ ctrl_kind (ctrl_line_of (func_of func.now) c).1.kind }
 {
-    ctrl_kind_of(word(func, CTRLS, c, 2))
+    CtrlKind::from(word(func, CTRLS, c, 2))
 }
 
 // The opcode of ctrl line c's INST.
@@ -602,7 +555,7 @@ pub fn entry_region(func: &[u32], c: usize, e: usize) -> usize
     requires e_in_bounds { e < length (ctrl_line_of (func_of func.now) c).1.vals }
     ensures { result ≡ (entry_of (func_of func.now) c e).0 }
 {
-    wide(word(func, ENTRIES, run_at(func, CTRLS, c, 7, e), 0))
+    word(func, ENTRIES, run_at(func, CTRLS, c, 7, e), 0) as usize
 }
 
 // Value i of that entry.

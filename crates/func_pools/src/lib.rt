@@ -1,7 +1,7 @@
 // The pools: where an entry stands, what it says, and one more of them.
 #![tactic(auto)]
 
-ghost use Rattle.std.specs.Prelude.{◌≡◌, ◌+◌, ◌*◌, ◌/◌, ◌%◌, ◌<◌, ◌≤◌, min, length};
+ghost use Rattle.std.specs.Prelude.{◌≡◌, ◌+◌, ◌*◌, ◌/◌, ◌%◌, ◌<◌, ◌≤◌, length};
 ghost use Rattle.std.proofs.lemmas.List.Edits.{sets};
 ghost use Rattle.func.specs.Layout.{func_need, pool_total, entry_words, base, width, room};
 ghost use Rattle.func.specs.Store.{count, most, place, raise, push};
@@ -114,11 +114,7 @@ pub fn store(func: &mut [u32], at: usize, e: &[u32])
     ensures func_after { func.new ≡ sets func.old at e.now }
     ensures func_len_unchanged { length func.new ≡ length func.old }
 {
-    let mut i = 0;
-    while i < e.len() {
-        func[at + i] = e[i];
-        i += 1;
-    }
+    func[at..at + e.len()].copy_from_slice(e);
 }
 
 // Every pool is empty.
@@ -139,7 +135,7 @@ fn place(func: &mut [u32], k: usize, e: &[u32])
     let n = func[4 + k];
     let most = room(k);
     if n < most {
-        store(func, spot(k, wide(n)), e);
+        store(func, spot(k, n as usize), e);
         func[4 + k] = n + 1;
     } else {
         func[4 + k] = most + 1;
@@ -152,12 +148,7 @@ fn raise(func: &mut [u32], k: usize, n: u32)
     ensures func_after { func.new ≡ raise k n func.old }
     ensures func_len_unchanged { length func.new ≡ length func.old }
 {
-    let m = func[18 + k];
-    if m < n {
-        func[18 + k] = n;
-    } else {
-        func[18 + k] = m;
-    }
+    func[18 + k] = func[18 + k].max(n);
 }
 
 // An entry of pool k.
@@ -168,13 +159,6 @@ pub fn push(func: &mut [u32], k: usize, e: &[u32])
 {
     place(func, k, e);
     raise(func, k, e[0]);
-}
-
-// The smaller of two numbers.
-pub fn least(a: u32, b: u32) -> u32
-    ensures { result ≡ min a b }
-{
-    if a < b { a } else { b }
 }
 
 // How many entries pool k was given, up to one above its room.
@@ -209,7 +193,7 @@ pub fn run_count(func: &[u32], k: usize, i: usize, j: usize) -> usize
     requires j_bound { j < entry_words k }
     ensures { result ≡ word k func.now i j % 4096 }
 {
-    wide(word(func, k, i, j) % 4096)
+    (word(func, k, i, j) % 4096) as usize
 }
 
 // Where element n of that list stands in its pool.
@@ -218,5 +202,5 @@ pub fn run_at(func: &[u32], k: usize, i: usize, j: usize, n: usize) -> usize
     requires j_bound { (j < entry_words k) × (n ≤ 4095) }
     ensures { result ≡ word k func.now i j / 4096 + n }
 {
-    wide(word(func, k, i, j) / 4096) + n
+    (word(func, k, i, j) / 4096) as usize + n
 }

@@ -3,11 +3,12 @@
 
 ghost use Rattle.std.specs.Prelude.{◌≡◌, ◌+◌, ◌/◌, ◌%◌, ◌≤◌, ◌<◌, length, get_or};
 ghost use Rattle.func.specs.Layout.{func_need, consts, params, decls, regions, nodes, ops, node_refs, child_refs, entry_words};
+ghost use Rattle.func.specs.Kinds.{node_kind_from, op_kind_from};
 ghost use Rattle.func.specs.Tables.{Within, word};
 
+use func::{NodeKind, OpKind};
 use func_pools::{
-    CHILD_REFS, CONSTS, DECLS, NODE_REFS, NODES, OPS, PARAMS, REGIONS, run_at, run_count, wide,
-    word,
+    CHILD_REFS, CONSTS, DECLS, NODE_REFS, NODES, OPS, PARAMS, REGIONS, run_at, run_count, word,
 };
 
 // The func line's return type id.
@@ -64,7 +65,7 @@ pub fn row_ref(func: &[u32], k: usize, i: usize) -> usize
     requires k_nonzero { 0 < entry_words k }
     ensures { result ≡ word k func.now i 0 }
 {
-    wide(word(func, k, i, 0))
+    word(func, k, i, 0) as usize
 }
 
 // How many inputs region r has.
@@ -90,7 +91,7 @@ pub fn row_node(func: &[u32], r: usize, i: usize) -> usize
     ensures { result ≡ word node_refs func.now (word regions func.now r 1 / 4096 + i) 0 }
 {
     let at = run_at(func, REGIONS, r, 1, i);
-    wide(word(func, NODE_REFS, at, 0))
+    word(func, NODE_REFS, at, 0) as usize
 }
 
 // How many outputs region r has.
@@ -101,12 +102,12 @@ pub fn row_results(func: &[u32], r: usize) -> usize
     run_count(func, REGIONS, r, 2)
 }
 
-// The number of node n's kind.
-pub fn row_kind(func: &[u32], n: usize) -> u32
+// The kind of node n.
+pub fn row_kind(func: &[u32], n: usize) -> NodeKind
     requires { Within nodes func.now n }
-    ensures { result ≡ word nodes func.now n 0 }
+    ensures { result ≡ node_kind_from (word nodes func.now n 0) }
 {
-    word(func, NODES, n, 0)
+    NodeKind::from(word(func, NODES, n, 0))
 }
 
 // The opcode of node n's INST, 0 without one.
@@ -157,7 +158,7 @@ pub fn row_child(func: &[u32], n: usize, i: usize) -> usize
     ensures { result ≡ word child_refs func.now (word nodes func.now n 5 / 4096 + i) 0 }
 {
     let at = run_at(func, NODES, n, 5, i);
-    wide(word(func, CHILD_REFS, at, 0))
+    word(func, CHILD_REFS, at, 0) as usize
 }
 
 // How many outputs node n has.
@@ -176,18 +177,14 @@ pub fn row_type(func: &[u32], o: usize) -> u32
     word(func, OPS, o, 1)
 }
 
-// The number of op o's kind.
-pub fn row_op_kind(func: &[u32], o: usize) -> u32
+// The kind of op o, with its opcode, its ID, or its ID and N.
+pub fn row_op_kind(func: &[u32], o: usize) -> OpKind
     requires { Within ops func.now o }
-    ensures { result ≡ word ops func.now o 2 }
+    ensures { result ≡ op_kind_from (word ops func.now o 2) (word ops func.now o 3) (word ops func.now o 4) }
 {
-    word(func, OPS, o, 2)
-}
-
-// The word beside it: the opcode of an INST, else the ID of a callee or of an instruction set.
-pub fn row_op_first(func: &[u32], o: usize) -> u32
-    requires { Within ops func.now o }
-    ensures { result ≡ word ops func.now o 3 }
-{
-    word(func, OPS, o, 3)
+    OpKind::from_words(
+        word(func, OPS, o, 2),
+        word(func, OPS, o, 3),
+        word(func, OPS, o, 4),
+    )
 }

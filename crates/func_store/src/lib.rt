@@ -12,7 +12,7 @@ ghost use Rattle.func.specs.Rows.{marks_of, region_row, node_row, op_row, entry_
 use func::{CtrlKind, Marks, NodeKind, OpKind};
 use func_pools::{
     CHILD_REFS, CONSTS, CTRLS, DECLS, ENTRIES, IMMS, NODE_REFS, NODES, OP_REFS, OPS, PARAMS,
-    REGIONS, TARGETS, VALUES, count, least, push, store,
+    REGIONS, TARGETS, VALUES, count, push, store,
 };
 
 // The three words of an op's kind.
@@ -23,32 +23,7 @@ struct OpWords {
     second: u32,
 }
 
-// The number of a kind.
-fn node_number(kind: NodeKind) -> u32
-    ensures { result ≡ node_kind_number kind }
-{
-    match kind {
-        NodeKind::Block => 0,
-        NodeKind::SelectBool => 1,
-        NodeKind::SelectInst => 2,
-        NodeKind::Loop => 3,
-        NodeKind::Exit => 4,
-    }
-}
-
-fn ctrl_number(kind: CtrlKind) -> u32
-    ensures { result ≡ ctrl_kind_number kind }
-{
-    match kind {
-        CtrlKind::Unreachable => 0,
-        CtrlKind::Return => 1,
-        CtrlKind::Branch => 2,
-        CtrlKind::Bool => 3,
-        CtrlKind::Inst => 4,
-        CtrlKind::Exit => 5,
-    }
-}
-
+// The number of an op's kind, and the two words beside it.
 fn op_words(kind: OpKind) -> OpWords
     ensures { (result.kind ≡ op_kind_number kind) × (result.first ≡ op_kind_first kind) × (result.second ≡ op_kind_second kind) }
 {
@@ -146,8 +121,8 @@ pub fn begin(func: &[u32]) -> Marks
 fn span(a: u32, b: u32) -> u32
     ensures { result ≡ pool_span a b }
 {
-    let from = least(a, 4095);
-    let to = least(b, 4095);
+    let from = a.min(4095);
+    let to = b.min(4095);
     if from < to {
         from * 4096 + (to - from)
     } else {
@@ -181,7 +156,7 @@ pub fn node_row(func: &mut [u32], from: Marks, kind: NodeKind, opcode: u32, cont
     ensures func_after { func.new ≡ node_row from (node_kind_number kind) opcode control func.old }
     ensures func_len_unchanged { length func.new ≡ length func.old }
 {
-    let k = node_number(kind);
+    let k = u32::from(kind);
     let a = run(func, IMMS, from.imms);
     let b = run(func, VALUES, from.values);
     let c = run(func, OP_REFS, from.ops);
@@ -229,7 +204,7 @@ pub fn ctrl_row(
     ensures func_after { func.new ≡ ctrl_row_from from to region attrs (ctrl_kind_number kind) opcode func.old }
     ensures func_len_unchanged { length func.new ≡ length func.old }
 {
-    let k = ctrl_number(kind);
+    let k = u32::from(kind);
     let a = span(from.imms, to.imms);
     let b = span(from.values, to.values);
     let c = span(from.targets, to.targets);

@@ -7,4 +7,5 @@ pub mod Fewer
 pub mod Part
 pub mod Tab
 pub mod Every
+pub mod Ranges
 pub mod Compare

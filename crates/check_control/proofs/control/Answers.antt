@@ -1,24 +1,16 @@
 -- Refusal 7 is its tests in this order: two lines of one region (`control_twice`), a line that does not fit (`control_line`), no line at all
 -- (`control_none`), and else a root without a line (`control_reached`).
 use mathlib.Core.Path.{sym, ap, ◌∙◌}
-use native.Mathlib.Omega.{arith}
 use lib.Dec.{lit≤}
 use borrow.Author.Tests.{not-true, not-false}
 use Rattle.general_laws.specs.Lists.{every, within, keys}
 use Rattle.func.specs.Decode.{func_of}
 use Rattle.work.specs.Aside.{aside_more, aside_wider}
-use Rattle.walk_roots.specs.Tables.{marked_aside, indexed_aside}
 use Rattle.check_control.specs.Loops.{control_twice, control_line, control_none, control_reached}
 use Rattle.check_control.proofs.control.Goals as goal
 
 pub returns-then-not-index : goal.returns-then-not-index
 returns-then-not-index c = (sym (control_twice (func_of c.args.func.now) (sym c.index.ensures.value ∙ not-true c.index.result c.if-not-index.true-raw)), c.index.ensures.work_len_unchanged, c.index.ensures.aside)
-
-pub mark_nodes-requires : goal.mark_nodes-requires
-mark_nodes-requires c = record { tables = c.requires.tables; regions_named = c.requires.regions_named; tables_end_in_bounds = (omega (arith, c.index.ensures.work_len_unchanged, c.requires.work_need_in_bounds), c.index.ensures.regions_marked.0) }
-
-pub lines_fit-requires : goal.lines_fit-requires
-lines_fit-requires c = record { tables = c.requires.tables; regions_named = c.requires.regions_named; regions_marked = (c.mark_nodes.ensures.regions_marked, omega (arith, c.mark_nodes.ensures.work_len_unchanged, c.index.ensures.work_len_unchanged, c.requires.work_need_in_bounds)) }
 
 pub returns-then-not-lines_fit : goal.returns-then-not-lines_fit
 returns-then-not-lines_fit c = (
@@ -33,15 +25,6 @@ returns-then-ctrl_total-eq0 c = (
   c.mark_nodes.ensures.work_len_unchanged ∙ c.index.ensures.work_len_unchanged,
   aside_more c.index.ensures.aside (aside_wider c.mark_nodes.ensures.aside (lit≤ tt) (lit≤ tt)),
 )
-
--- where there is a ctrl line, there is a region
-pub order-n-requires : goal.order-n-requires
-order-n-requires c =
-    let some = c.requires.regions_named.line 0 (omega (arith, c.ctrl_total.ensures, c.if-ctrl_total-eq0.false)) in
-    record { tables = c.requires.tables; regions_named = c.requires.regions_named; regions_nonzero = omega (arith, some); indexed = indexed_aside c.index.ensures.indexed c.mark_nodes.ensures.aside; regions_marked = (marked_aside c.index.ensures.regions_marked.1 c.mark_nodes.ensures.aside (lit≤ tt), omega (arith, c.mark_nodes.ensures.work_len_unchanged, c.index.ensures.work_len_unchanged, c.requires.work_need_in_bounds)) }
-
-pub have_ctrls-requires : goal.have_ctrls-requires
-have_ctrls-requires c = record { indexed = c.order-n.ensures.indexed_2; roots_low = (c.order-n.ensures.roots_low, c.requires.regions_named.few); n_bound = (omega (arith, c.order-n.ensures.upper_bound, c.requires.regions_named.few), omega (arith, c.order-n.ensures.work_len_unchanged, c.mark_nodes.ensures.work_len_unchanged, c.index.ensures.work_len_unchanged, c.requires.work_need_in_bounds)) }
 
 pub returns : goal.returns
 returns c =

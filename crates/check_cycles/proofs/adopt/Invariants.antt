@@ -1,8 +1,6 @@
--- The loop's invariant: to mark the children of all nodes is to mark those of the nodes from the i-th on, over what is marked by now. The measure
--- is how many nodes are left.
+-- The loop's invariant: to mark the children of all nodes is to mark those of the nodes from the i-th on, over what is marked by now.
 use mathlib.Core.Path.{◌≡◌}
-use Prim.Native.Nat.{◌≤◌, ◌+◌, ◌-◌, ◌/◌}
-use lib.ListN.{length}
+use Prim.Native.Nat.{◌+◌, ◌-◌, ◌/◌}
 use Rattle.general_laws.specs.Lists.{gather}
 use Rattle.func.specs.Layout.{node_refs, regions}
 use Rattle.func.specs.Tables.{word}
@@ -11,9 +9,4 @@ use Rattle.check_marks.specs.Marks.{mark_all}
 use Rattle.check_cycles.proofs.adopt.Given as goal
 
 abbrev pub invariant-loop-i : goal.invariant-loop-i
-invariant-loop-i l = (l.i ≤ l.n)
-    × (length l.work ≡ length l.initial.work)
-    × (mark_all (kids l.func l.r) l.v l.initial.work ≡ mark_all (gather (child_refs_in l.func) (pool_numbers node_refs l.func (word regions l.func l.r 1 / 4096 + l.i) (l.n - l.i))) l.v l.work)
-
-abbrev pub decreases-loop-i : goal.decreases-loop-i
-decreases-loop-i l = l.n - l.i
+invariant-loop-i l = mark_all (kids l.func l.r) l.v l.initial.work ≡ mark_all (gather (child_refs_in l.func) (pool_numbers node_refs l.func (word regions l.func l.r 1 / 4096 + l.i) (l.n - l.i))) l.v l.work

@@ -1,7 +1,6 @@
 -- The loop's invariant: the climb is at a region to which each region that it stamped leads. The measure is how many regions have no stamp; a
 -- root ends the climb (`climb_root`), and else the stamp tells whose it is (`climb_end`).
 use mathlib.Core.Path.{◌≡◌}
-use Prim.Native.Nat.{◌-◌}
 use lib.ListN.{length}
 use Rattle.check_cycles.specs.Stamps.{parent, free}
 use Rattle.check_cycles.proofs.Laws.{Climb}

@@ -11,4 +11,4 @@ pub word-requires : goal.word-requires
 word-requires c = record { within = ctrl_in c.requires.tables c.args.c c.requires.c_in_bounds; j_bound = lit< tt }
 
 pub returns : goal.returns
-returns c = c.ctrl_kind_of.ensures ∙ ap ctrl_kind_from (c.word.ensures ∙ ctrl_words_are c.requires.tables c.args.c c.requires.c_in_bounds 2 (lit< tt)) ∙ ctrl_kind_law (ctrl_line_of (func_of c.args.func.now) c.args.c).1.kind
+returns c = c.from.ensures ∙ ap ctrl_kind_from (c.word.ensures ∙ ctrl_words_are c.requires.tables c.args.c c.requires.c_in_bounds 2 (lit< tt)) ∙ ctrl_kind_law (ctrl_line_of (func_of c.args.func.now) c.args.c).1.kind

@@ -8,4 +8,4 @@ pub word-requires : goal.word-requires
 word-requires c = record { within = ctrl_in c.requires.tables c.args.c c.requires.c_in_bounds; j_bound = lit< tt }
 
 pub returns : goal.returns
-returns c = c.wide.ensures ∙ c.word.ensures ∙ ctrl_words_are c.requires.tables c.args.c c.requires.c_in_bounds 0 (lit< tt)
+returns c = c.word.ensures ∙ ctrl_words_are c.requires.tables c.args.c c.requires.c_in_bounds 0 (lit< tt)

@@ -11,4 +11,4 @@ pub word-requires : goal.word-requires
 word-requires c = record { within = entry_within c.requires.tables c.args.c c.requires.c_in_bounds c.args.e c.requires.e_in_bounds c.run_at.ensures; j_bound = lit< tt }
 
 pub returns : goal.returns
-returns c = c.wide.ensures ∙ c.word.ensures ∙ entry_region_is c.requires.tables c.args.c c.requires.c_in_bounds c.args.e c.requires.e_in_bounds c.run_at.result c.run_at.ensures
+returns c = c.word.ensures ∙ entry_region_is c.requires.tables c.args.c c.requires.c_in_bounds c.args.e c.requires.e_in_bounds c.run_at.result c.run_at.ensures

@@ -11,4 +11,4 @@ pub word-requires : goal.word-requires
 word-requires c = record { within = node_in_law c.requires.tables c.args.n c.requires.n_in_bounds; j_bound = lit< tt }
 
 pub returns : goal.returns
-returns c = c.node_kind_of.ensures ∙ ap node_kind_from (c.word.ensures ∙ node_number_is c.requires.tables c.args.n c.requires.n_in_bounds) ∙ node_kind_law (node_of (func_of c.args.func.now) c.args.n)
+returns c = c.from.ensures ∙ ap node_kind_from (c.word.ensures ∙ node_number_is c.requires.tables c.args.n c.requires.n_in_bounds) ∙ node_kind_law (node_of (func_of c.args.func.now) c.args.n)

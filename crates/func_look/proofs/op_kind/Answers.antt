@@ -22,4 +22,4 @@ returns c =
     let k = c.word.ensures ∙ op_words_are c.requires.tables c.args.o c.requires.o_in_bounds 2 (lit< tt) in
     let m = c.word-2.ensures ∙ op_words_are c.requires.tables c.args.o c.requires.o_in_bounds 3 (lit< tt) in
     let n = c.word-3.ensures ∙ op_words_are c.requires.tables c.args.o c.requires.o_in_bounds 4 (lit< tt) in
-    c.op_kind_of.ensures ∙ (λ i. op_kind_from (k i) (m i) (n i)) ∙ op_kind_law (op_of (func_of c.args.func.now) c.args.o).kind
+    c.from_words.ensures ∙ (λ i. op_kind_from (k i) (m i) (n i)) ∙ op_kind_law (op_of (func_of c.args.func.now) c.args.o).kind

@@ -8,4 +8,4 @@ pub count-requires : goal.count-requires
 count-requires c = (c.requires.size, lit< tt)
 
 pub returns : goal.returns
-returns c = c.wide.ensures ∙ c.count.ensures ∙ sym (region_total c.requires)
+returns c = c.count.ensures ∙ sym (region_total c.requires)

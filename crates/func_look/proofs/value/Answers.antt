@@ -6,4 +6,4 @@ use Rattle.func.specs.Decode.{value_from}
 use Rattle.func_look.proofs.value.Goals as goal
 
 pub returns : goal.returns
-returns c = c.value_from.ensures ∙ (λ i. value_from (c.word-x.ensures i / 65536) (c.word-x.ensures i % 65536) (c.word-b.ensures i))
+returns c = c.from_words.ensures ∙ (λ i. value_from (c.word-x.ensures i / 65536) (c.word-x.ensures i % 65536) (c.word-b.ensures i))

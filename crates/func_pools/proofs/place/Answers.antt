@@ -1,5 +1,6 @@
 -- Where there is room the entry is stored at its place and counted (`place_stored`); else the count is set to one above the room
 -- (`place_counted`).
+use mathlib.Core.Path.{refl}
 use native.Mathlib.Omega.{arith}
 use lib.ListN.{length-set}
 use Rattle.func.proofs.Pools.{inside}
@@ -12,7 +13,7 @@ overflow_add-func-else-n-most c = omega (arith, (inside c.args.k c.requires.1).r
 pub returns-then-n-most : goal.returns-then-n-most
 returns-then-n-most c =
     record {
-      func_after = place_stored c.args.k c.wide.result c.spot.result c.args.e.now c.args.func.now _ c.wide.ensures c.spot.ensures.0 c.store.ensures.func_after
+      func_after = place_stored c.args.k _ c.spot.result c.args.e.now c.args.func.now _ refl c.spot.ensures.0 c.store.ensures.func_after
           (omega arith);
       func_len_unchanged = simp length-set (omega arith);
     }

@@ -12,8 +12,5 @@ run_at-at-requires c = record { within = c.requires.within; j_bound = (lit< tt, 
 pub word-requires : goal.word-requires
 word-requires c = record { within = subst (Within child_refs _) (sym c.run_at-at.ensures) c.requires.i_bound.1; j_bound = lit< tt }
 
-pub wide-requires : goal.wide-requires
-wide-requires c = tt
-
 pub returns : goal.returns
-returns c = c.wide.ensures ∙ c.word.ensures ∙ ap (λ (a : ℕ). word child_refs c.args.func.now a 0) c.run_at-at.ensures
+returns c = c.word.ensures ∙ ap (λ (a : ℕ). word child_refs c.args.func.now a 0) c.run_at-at.ensures

@@ -1,0 +1,10 @@
+-- Each of the node's outs is asked by its type (`all_of`).
+use Rattle.std.proofs.Common.{rules, tests, ltb}
+use Rattle.general_laws.specs.Ranges.{all_of}
+use Rattle.lifting.specs.Parts.{node_of, outs_of}
+use Rattle.func.specs.Decode.{func_of}
+use Rattle.func.specs.Kinds.{decl_from}
+use Rattle.check_first.proofs.outs_below.Goals as goal
+
+pub returns : goal.returns
+returns c = all_of (λ d. ltb d.type c.args.first) (outs_of (node_of (func_of c.args.func.now) c.args.n)) (decl_from 0 0) c.all.ensures.ran c.node_out_count-k.ensures (λ x b q k. search (rules, tests))
