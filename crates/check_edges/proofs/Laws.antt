@@ -1,19 +1,17 @@
 -- What the proofs of this crate cite, over plain variables.
 --     ins-..      a region's inputs
 use mathlib.Core.Path.{◌≡◌, refl, sym, ap, ◌∙◌}
-use mathlib.Core.Bool.{Bool, true, false, cond, ◌&&◌, ◌||◌}
+use mathlib.Core.Bool.{Bool, true, false, cond, ◌&&◌}
 use mathlib.Core.List.{List}
-use Prim.Native.Nat.{ℕ, suc, ◌+◌, ◌-◌, ◌%◌, ◌≤◌, ◌<◌}
+use Prim.Native.Nat.{ℕ, ◌-◌, ◌%◌, ◌≤◌, ◌<◌}
 use native.Mathlib.Omega.{arith}
-use lib.Dec.{eqb, leb, ltb}
-use lib.ListN.{get_or, set}
-use borrow.Author.Tests.{eq-eqb, ne_eqb, ltb-true, ltb-false, leb-true, leb-false, lt-ltb, le-ltb, le-leb, lt-leb}
-use Rattle.general_laws.specs.Lists.{every, tabulate}
-use Rattle.lifting.specs.Limits.{max_regions, max_targets}
-use Rattle.func.specs.Layout.{regions, targets}
+use lib.Dec.{leb, ltb}
+use borrow.Author.Tests.{ltb-true, ltb-false, leb-true, leb-false, le-ltb, lt-leb}
+use Rattle.lifting.specs.Limits.{max_regions}
+use Rattle.func.specs.Layout.{regions}
 use Rattle.func.specs.Store.{count}
 use Rattle.func.specs.Tables.{word}
-use Rattle.check_edges.specs.Edges.{ins_of, mark_entry, target_entered, targets_fit}
+use Rattle.check_edges.specs.Edges.{ins_of}
 
 -- a region's inputs
 and_no : (a : Bool) → (a && false) ≡ false

@@ -1,11 +1,11 @@
 -- The ids in a text, kind of line by kind of line: the func line, constants, parameters, regions by their inputs, nodes by their outs, ops by
 -- their callees and types. Assumes nothing.
 --     first_above     the first id is not 0 and is above every id in the text exactly if it is above those of the func line and of each kind of line
-use Rattle.std.specs.Prelude.{◌≡◌, refl, Bool, true, false, ◌&&◌, ℕ, ◌<◌, ltb, length}
+use Rattle.std.specs.Prelude.{◌≡◌, refl, Bool, true, false, ◌&&◌, ℕ, ltb}
 use Rattle.std.proofs.Math.Path.{sym, ap}
-use Rattle.std.proofs.Common.{◌∙◌, arith}
+use Rattle.std.proofs.Common.{◌∙◌}
 use Rattle.std.proofs.Math.Bool.{and-true}
-use mathlib.Core.List.{List, [], ◌++◌, map}
+use mathlib.Core.List.{List, ◌++◌, map}
 use Rattle.general_laws.specs.Lists.{every, gather}
 use Rattle.lifting.specs.Ast.{DataInstKind, inst, call, ext, Op, Decl, Func}
 use Rattle.lifting.specs.Parts.{outs_of, callee_ids, decls, required_ids, ids}

@@ -1,7 +1,7 @@
 // Marks in the work slice: the words that some numbers of the function slice name.
 #![tactic(auto)]
 
-ghost use Rattle.std.specs.Prelude.{◌≡◌, ◌+◌, ◌<◌, length};
+ghost use Rattle.std.specs.Prelude.{◌≡◌, ◌+◌, length};
 ghost use Rattle.check_marks.specs.Test.{pool_numbers};
 ghost use Rattle.check_marks.specs.Marks.{Run, mark_all};
 

@@ -2,18 +2,17 @@
 use mathlib.Core.Path.{◌≡◌, refl, sym, ap, ◌∙◌}
 use mathlib.Core.Bool.{Bool, true, false}
 use mathlib.Core.List.{List, ◌∷◌, ◌++◌}
-use Prim.Native.Nat.{ℕ, zero, suc, ◌+◌, ◌-◌, ◌/◌, ◌%◌, ◌≤◌, ◌<◌}
+use Prim.Native.Nat.{ℕ, zero, suc, ◌+◌, ◌-◌, ◌≤◌, ◌<◌}
 use native.Mathlib.Omega.{arith}
-use lib.Dec.{lit<}
 use lib.ListN.{length, get_or, set}
-use borrow.Author.Tests.{eq-eqb, ne_eqb, lt-ltb}
-use Rattle.general_laws.specs.Lists.{tabulate, below, gather, distinct}
-use Rattle.func.specs.Layout.{func_need, pool_total, entry_words, entry_room, child_refs, regions, nodes, ctrls}
+use borrow.Author.Tests.{eq-eqb, lt-ltb}
+use Rattle.general_laws.specs.Lists.{distinct}
+use Rattle.func.specs.Layout.{child_refs, regions, nodes, ctrls}
 use Rattle.func.specs.Store.{count}
-use Rattle.func.specs.Tables.{Within, word}
+use Rattle.func.specs.Tables.{word}
 use Rattle.check_marks.specs.Once.{Below}
-use Rattle.check_marks.specs.Test.{pool_numbers, refs, once_test, child_fit, child_test, child_refs_in, Refs, TreeSafe}
-use Rattle.check_marks.specs.Marks.{Run, ClearBelow, fresh_marks, fresh_clear, fresh_zero, fresh_hit, fresh_next, tab_first, tab_next, numbers_first, numbers_next, numbers_done}
+use Rattle.check_marks.specs.Test.{pool_numbers, refs, once_test, child_fit, child_test, Refs}
+use Rattle.check_marks.specs.Marks.{ClearBelow, fresh_marks, fresh_clear, fresh_zero, fresh_hit, fresh_next, numbers_next, numbers_done}
 
 -- the numbers of a pool name lines
 numbers_below : (k : ℕ) (w : List ℕ) (m a n : ℕ) → ((i : ℕ) → a ≤ i → i < a + n → word k w i 0 < m) → Below m (pool_numbers k w a n)

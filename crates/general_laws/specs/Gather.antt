@@ -5,7 +5,6 @@
 --     map_back                                                       decoding undoes encoding, element by element
 use Rattle.std.specs.Prelude.{◌≡◌, refl, Bool, true, List, [], ◌∷◌, ◌++◌, map}
 use Rattle.std.proofs.Common.{sym, ap, ap₂, ◌∙◌, append_assoc}
-use Rattle.general_laws.specs.Every.{every_at, every_parts, every_split, every_true}
 use Rattle.general_laws.specs.Tests.{both}
 use Rattle.general_laws.specs.Lists.{every, gather}
 

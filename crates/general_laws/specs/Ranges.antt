@@ -6,7 +6,7 @@
 --     any_from, any_of         a number among the elements of a list, from one on or of all
 --     all_tabulated            a test at what a function gives of every number from one on
 --     any_keys, distinct_keys  a number among the keys of entries, and keys that differ
-use Rattle.std.specs.Prelude.{◌≡◌, refl, Option, Bool, true, false, not, ◌&&◌, ◌||◌, List, [], ◌∷◌, ℕ, zero, suc, ◌+◌, ◌-◌, ◌≤◌, ◌<◌, eqb, length, get_or, drop}
+use Rattle.std.specs.Prelude.{◌≡◌, refl, Option, Bool, true, false, not, ◌&&◌, ◌||◌, List, ℕ, zero, suc, ◌+◌, ◌-◌, eqb, length, get_or, drop}
 use Rattle.std.proofs.Common.{sym, ap, ◌∙◌, add-one, arith, drop-cons, drop_of_length-le, eq-eqb, ne_eqb}
 use Rattle.std.proofs.Math.Decide.{ℕ_discrete}
 use Rattle.std.proofs.iter.Yields.{nat_range_steps}

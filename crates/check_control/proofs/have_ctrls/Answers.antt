@@ -1,5 +1,5 @@
 -- Each word at the end of the table of roots is asked (`all_tabulated`).
-use Rattle.std.proofs.Common.{rules, tests, arith, ◌-◌, get_or}
+use Rattle.std.proofs.Common.{rules, tests, arith, get_or}
 use Rattle.general_laws.specs.Lists.{within, keys}
 use Rattle.general_laws.specs.Ranges.{all_tabulated}
 use Rattle.func.specs.Decode.{func_of}

@@ -1,5 +1,5 @@
 -- The part of the slice behind `at` is the run (`put_mid-paste`), as `sets` has it (`sets-eq`).
-use Rattle.std.proofs.Common.{refl, sym, ◌∙◌, arith, length, length-take}
+use Rattle.std.proofs.Common.{refl, sym, ◌∙◌, arith, length}
 use Rattle.std.proofs.Math.Seq.{take-length}
 use Rattle.std.proofs.lemmas.List.Edits.{sets-eq}
 use Rattle.std.proofs.lemmas.Slice.{put_mid-paste}
