@@ -6,6 +6,7 @@ use mathlib.Core.Path.{◌≡◌, refl, sym, ap, subst, ◌∙◌}
 use mathlib.Core.Bool.{Bool, true, ◌&&◌, and-true}
 use mathlib.Core.List.{List, [], ◌∷◌, append-nil}
 use mathlib.Core.Option.{Option, none, some, some-injective, none-ne-some}
+use Rattle.std.specs.Prelude as code
 use Prim.Native.Nat.{ℕ, suc, ◌+◌}
 use native.Mathlib.Decide.{ℕ_discrete}
 use native.Mathlib.Omega.{arith}
@@ -17,7 +18,9 @@ use Rattle.lifting.specs.Codec.{then, then_then, both_of, up, strip, lit, seq, v
 use Rattle.lifting.specs.Ast.{Value, Imm, Inst, bool_cond, spv_inst, ControlInstKind, unreachable, return, branch, select_branch, exit_invocation, ControlInst}
 use Rattle.lifting.specs.Parts.{ctrl_insts}
 use Rattle.lifting.specs.Grammar.{after_word, closed, imms_codec}
-use Rattle.read_cursor.specs.Read.{Reads, literal}
+use Rattle.read_cursor.specs.Answers.{Missed}
+use Rattle.read_cursor.specs.Chains.{took_next, denied_next}
+use Rattle.read_cursor.specs.declared.Cursor.{Cursor}
 use Rattle.read_insts.specs.Heads.{inst_rest, exit_rest, selection_rest, control_rest}
 use Rattle.read_insts.specs.declared.Selection.{Selection}
 use Rattle.read_insts.specs.declared.Selection.TheVariants as sel
@@ -30,28 +33,30 @@ use Rattle.func.specs.Store.{folds}
 use Rattle.func.specs.Keep.{ctrl_number, inst_opcode, inst_imms, keep_imm, keep_entry, keep_ctrl}
 use Rattle.func.specs.Kinds.{ctrl_kind_number}
 use Rattle.func.specs.Rows.{marks_of, ctrl_row_from, keep_ctrl_is}
-use Rattle.read_lines.specs.Stores.{Stores, stored_by, stores_taken, stores_refused, stores_one, stores_none, as_up, as_told, as_kept, after_stored, after_refused}
+use Rattle.read_lines.specs.Stores.{Stores, Stored}
+use Rattle.read_lines.specs.Rows.{as_told, up_lists}
 use Rattle.read_ctrls.specs.declared.CtrlHead.{CtrlHead}
 use Rattle.check_ctrls.specs.declared.Judged.{Judged}
 use Rattle.check_edges.specs.Edges.{Edges, keep_edge, targets_fit}
-use Rattle.read_ctrls.specs.Judge.{State, judged_edges, keep_judged}
+use Rattle.read_ctrls.specs.Judge.{judged_edges, keep_judged}
 use Rattle.read_ctrls.specs.Tails.{ctrl_lists, edges_form, ctrl_rest, to_ctrl, ctrl_tail}
 use Rattle.read_ctrls.specs.Answers.{edges_state, state_at, kind_of, keep_forms, keep_inst_forms, keep_lists}
 use Rattle.check_ctrls.specs.Judged.{judged_with, opcode_in}
 
 -- a reader that reads the same
-pub as_read : {A S : Type 0} {p q : List ℕ → Reading A} {f : A → S → S} {text : List ℕ} {at : ℕ} {found : Option (Unit {0} × ℕ)} {w v : S} → ((u : List ℕ) → p u ≡ q u)
-    → Stores q f text at found w v → Stores p f text at found w v
-as_read {f = f} {text} {at} {w = w} e s = record { is = ap (stored_by f w) (e (drop at text)) ∙ s.is; moves = s.moves }
+as_read : {A S : Type 0} (p q : List ℕ → Reading A) (f : A → S → S) (c : Cursor) (found : code.Option Cursor) (w v : S) → ((u : List ℕ) → p u ≡ q u)
+    → Stores q f c found w v → Stores p f c found w v
+as_read {A} p q f c found w v e s = let l : q ≡ p = λ i u. sym (e u) i in subst (λ (z : List ℕ → Reading A). Stores z f c found w v) l s
 
 -- the lists behind a kind without an INST
-module _ (k : Control) {text : List ℕ} {at : ℕ} {found : Option (Unit {0} × ℕ)} {w v : List ℕ} where
-  pub plain_lists : (d : ControlInstKind) → ctrl_insts d ≡ [] → ((u : List ℕ) → control_rest k u ≡ some (d, u)) → Stores ctrl_lists.read keep_forms text at found w v
-      → Stores (ctrl_rest k) keep_lists text at found w v
+module _ (k : Control) (c : Cursor) (found : code.Option Cursor) (w v : List ℕ) where
+  pub plain_lists : (d : ControlInstKind) → ctrl_insts d ≡ [] → ((u : List ℕ) → control_rest k u ≡ some (d, u)) → Stores ctrl_lists.read keep_forms c found w v
+      → Stores (ctrl_rest k) keep_lists c found w v
   unfolding folds
   plain_lists d n e s =
-      as_read (λ u. ap (λ (o : Reading ControlInstKind). then o (λ x. then (ctrl_lists.read x.1) (both_of x.0))) (e u))
-      (as_up ctrl_lists.read (λ y. (d, y)) (as_kept (λ y. ap (λ (is : List Inst). keep_forms y (folds keep_imm (inst_imms is) w)) n) s))
+      as_read (ctrl_rest k) (λ u. then (ctrl_lists.read u) (up (λ y. (d, y)))) keep_lists c found w v
+      (λ u. ap (λ (o : Reading ControlInstKind). then o (λ x. then (ctrl_lists.read x.1) (both_of x.0))) (e u))
+      (up_lists ctrl_lists.read (λ y. (d, y)) keep_forms keep_lists c found w v (λ y. ap (λ (is : List Inst). keep_forms y (folds keep_imm (inst_imms is) w)) n) s)
 
 -- behind an INST, and behind that of an exit
 abbrev inst_kind : (Inst → ControlInstKind) → ℕ → List Imm × (List Value × List ℕ) → ControlInstKind × (List Value × List ℕ)
@@ -62,29 +67,19 @@ kept f e n w y =
     ap (λ (is : List Inst). keep_forms y.1 (folds keep_imm (inst_imms is) w)) (e (record { opcode = n; imms = y.0 }))
     ∙ ap (λ (is : List Imm). keep_forms y.1 (folds keep_imm is w)) (append-nil y.0)
 
-module _ {k : Control} {n : ℕ} {text : List ℕ} {at : ℕ} {found : Option (Unit {0} × ℕ)} {w v : List ℕ} where
-  pub inst_lists : k ≡ ctrl.Select (sel.Inst n) → Stores (seq imms_codec ctrl_lists).read keep_inst_forms text at found w v → Stores (ctrl_rest k) keep_lists text at found w v
+module _ {k : Control} {n : ℕ} (c : Cursor) (found : code.Option Cursor) (w v : List ℕ) where
+  pub inst_lists : k ≡ ctrl.Select (sel.Inst n) → Stores (seq imms_codec ctrl_lists).read keep_inst_forms c found w v → Stores (ctrl_rest k) keep_lists c found w v
   inst_lists e s =
-      as_told ctrl_rest e
-      (as_read {q = λ u. then ((seq imms_codec ctrl_lists).read u) (up (inst_kind (λ i. select_branch (spv_inst i)) n))} (λ u. unfold seq in simp then_then)
-      (as_up (seq imms_codec ctrl_lists).read (inst_kind (λ i. select_branch (spv_inst i)) n) (as_kept (kept (λ i. select_branch (spv_inst i)) (λ i. refl) n w) s)))
+      let f : Inst → ControlInstKind = λ i. select_branch (spv_inst i) in
+      as_told ctrl_rest keep_lists c found w v e
+      (as_read (ctrl_rest (ctrl.Select (sel.Inst n))) (λ u. then ((seq imms_codec ctrl_lists).read u) (up (inst_kind f n))) keep_lists c found w v (λ u. unfold seq in simp then_then)
+      (up_lists (seq imms_codec ctrl_lists).read (inst_kind f n) keep_inst_forms keep_lists c found w v (kept f (λ i. refl) n w) s))
 
-  pub exit_lists : k ≡ ctrl.Exit n → Stores (seq (closed imms_codec) ctrl_lists).read keep_inst_forms text at found w v → Stores (ctrl_rest k) keep_lists text at found w v
+  pub exit_lists : k ≡ ctrl.Exit n → Stores (seq (closed imms_codec) ctrl_lists).read keep_inst_forms c found w v → Stores (ctrl_rest k) keep_lists c found w v
   exit_lists e s =
-      as_told ctrl_rest e
-      (as_read {q = λ u. then ((seq (closed imms_codec) ctrl_lists).read u) (up (inst_kind exit_invocation n))} (λ u. unfold closed after_word lit seq same view_as in simp then_then)
-      (as_up (seq (closed imms_codec) ctrl_lists).read (inst_kind exit_invocation n) (as_kept (kept exit_invocation (λ i. refl) n w) s)))
-
--- immediates and a bracket
-module _ {text : List ℕ} {at : ℕ} {w v : List ℕ} where
-  pub closed_stored : {mid : ℕ} {found : Option (Unit {0} × ℕ)} → Stores imms_codec.read (folds keep_imm) text at (some (tt, mid)) w v → Reads (literal (bytes ")")) text mid found
-      → Stores (closed imms_codec).read (folds keep_imm) text at found w v
-  unfolding closed
-  closed_stored p q = after_stored imms_codec (bytes ")") refl p q
-
-  pub closed_refused : Stores imms_codec.read (folds keep_imm) text at none w v → Stores (closed imms_codec).read (folds keep_imm) text at none w v
-  unfolding closed
-  closed_refused p = after_refused imms_codec (bytes ")") refl p
+      as_told ctrl_rest keep_lists c found w v e
+      (as_read (ctrl_rest (ctrl.Exit n)) (λ u. then ((seq (closed imms_codec) ctrl_lists).read u) (up (inst_kind exit_invocation n))) keep_lists c found w v (λ u. unfold closed after_word lit seq same view_as in simp then_then)
+      (up_lists (seq (closed imms_codec) ctrl_lists).read (inst_kind exit_invocation n) keep_inst_forms keep_lists c found w v (kept exit_invocation (λ i. refl) n w) s))
 
 -- what holds of everything that a reader may find
 record Yields {A : Type 0} (o : Reading A) (P : A → Type 0) : Type 0 where
@@ -163,30 +158,40 @@ entries_of h x o = then o (λ y. some (to_ctrl h x y.0, y.1))
 tail_is : (h : CtrlHead) (u r : List ℕ) (x : ControlInstKind × (List Value × List ℕ)) → ctrl_rest h.kind u ≡ some (x, r) → ctrl_tail h u ≡ entries_of h x (edges_form.read r)
 tail_is h u r x e = ap (λ (o : Reading (ControlInstKind × (List Value × List ℕ))). then o (λ x. entries_of h x.0 (edges_form.read x.1))) e
 
-module _ (h : CtrlHead) {text : List ℕ} {at : ℕ} {w v m : List ℕ} {seen : Judged} where
-  pub line_refused : {y : State} → Stores (ctrl_rest h.kind) keep_lists text at none w v → Stores (ctrl_tail h) keep_judged text at none (state_at w m seen) y
-  line_refused s =
-      stores_none (record { is = ap (λ (o : Reading (ControlInstKind × (List Value × List ℕ))). then o (λ x. entries_of h x.0 (edges_form.read x.1))) (stores_refused s); moves = tt })
+module _ (h : CtrlHead) {c : Cursor} where
+  pub line_missed : Missed (ctrl_rest h.kind) c → Missed (ctrl_tail h) c
+  line_missed p =
+      record { denied = record { is = ap (λ (o : Reading (ControlInstKind × (List Value × List ℕ))). then o (λ x. entries_of h x.0 (edges_form.read x.1))) p.denied.is; moves = tt } }
 
-  module _ {mid : ℕ} (line : ℕ) (s : Stores (ctrl_rest h.kind) keep_lists text at (some (tt, mid)) w v) where
-    pub line_unended : {y : State} {x z : Edges} → Stores edges_form.read (folds (keep_edge line)) text mid none x z → Stores (ctrl_tail h) keep_judged text at none (state_at w m seen) y
-    line_unended t =
-        let x = stores_taken s in
-        stores_none (record { is = tail_is h (drop at text) (drop mid text) x.0 x.1 ∙ ap (entries_of h x.0) (stores_refused t); moves = tt })
+  module _ {d : Cursor} {w v : List ℕ} (s : Stored (ctrl_rest h.kind) keep_lists c d w v) where
+    abbrev first : List ℕ
+    first = drop c.at c.text.now
 
-    pub line_stored : {next : ℕ} {u n r : List ℕ} {fit : Bool} {k l : Marks} {j : Judged}
-        → Stores edges_form.read (folds (keep_edge line)) text mid (some (tt, next)) (edges_state v m true) (edges_state u n fit) → line ≡ seen.line + 1 → k ≡ marks_of w → l ≡ marks_of v
+    abbrev second : List ℕ
+    second = drop d.at c.text.now
+
+    pub line_unended : Missed edges_form.read d → Missed (ctrl_tail h) c
+    line_unended q =
+        record { denied = record { is = tail_is h first second s.value s.reached.took.is ∙ ap (entries_of h s.value) (denied_next c s.reached.same_text q).is; moves = tt } }
+
+    pub line_stored : {e : Cursor} {u m n r : List ℕ} {fit : Bool} {k l : Marks} {j seen : Judged} (line : ℕ)
+        → Stored edges_form.read (folds (keep_edge line)) d e (edges_state v m true) (edges_state u n fit) → line ≡ seen.line + 1 → k ≡ marks_of w → l ≡ marks_of v
         → j ≡ judged_with seen h.kind (fit && targets_fit u n (seen.line + 1) k.targets)
         → r ≡ ctrl_row_from k l h.region h.attrs (ctrl_kind_number (kind_of h.kind)) (opcode_in h.kind) u
-        → Stores (ctrl_tail h) keep_judged text at (some (tt, next)) (state_at w m seen) (state_at r n j)
-    line_stored {next} {u} {n} {r} {fit} {k} {l} {j} t numbered began ended judged row =
-        let x = stores_taken s in
-        let y = stores_taken t in
-        stores_one (record {
-          is = tail_is h (drop at text) (drop mid text) x.0 x.1 ∙ ap (entries_of h x.0) y.1;
-          moves = record { moved = omega (arith, s.moves.moved, t.moves.moved); fits = t.moves.fits };
-        })
-        (sym (state x.0 x.2 (kind_is h.kind (drop at text) (drop mid text) x.0 x.1) y.0 y.2))
+        → Stored (ctrl_tail h) keep_judged c e (state_at w m seen) (state_at r n j)
+    line_stored {e} {u} {m} {n} {r} {fit} {k} {l} {j} {seen} line t numbered began ended judged row =
+        let q = took_next c s.reached.same_text t.reached in
+        record {
+          value = to_ctrl h s.value t.value;
+          reached = record {
+            took = record {
+              is = tail_is h first second s.value s.reached.took.is ∙ ap (entries_of h s.value) q.is;
+              moves = record { moved = omega (arith, s.reached.took.moves.moved, q.moves.moved); fits = q.moves.fits };
+            };
+            same_text = t.reached.same_text ∙ s.reached.same_text;
+          };
+          kept = sym (state s.value (sym s.kept) (kind_is h.kind first second s.value s.reached.took.is) t.value (sym t.kept));
+        }
       where
         next_line : suc seen.line ≡ seen.line + 1
         next_line = omega arith

@@ -1,6 +1,6 @@
 -- What the answers of this crate say was found, case by case, and the states that the code's variables are. Assumes nothing.
-use Rattle.std.specs.Prelude.{Bool, false, List, ℕ}
-use Rattle.std.proofs.Math.Option.{Option, none, some}
+use Rattle.std.specs.Prelude.{Bool, List, ℕ, Option, None, Some}
+use Rattle.lifting.specs.Digits.{Reading}
 use Rattle.lifting.specs.Ast.{Value, Imm, ControlInstKind}
 use Rattle.lifting.specs.Parts.{ctrl_insts}
 use Rattle.read_insts.specs.declared.Selection.{Selection}
@@ -11,44 +11,21 @@ use Rattle.func.specs.declared.CtrlKind.{CtrlKind}
 use Rattle.func.specs.declared.CtrlKind.TheVariants as kept
 use Rattle.func.specs.Store.{folds}
 use Rattle.func.specs.Keep.{keep_imm, keep_value, keep_target, inst_imms}
-use Rattle.read_ctrls.specs.declared.CtrlHead.{CtrlHead}
-use Rattle.read_ctrls.specs.declared.CtrlHeadRead.{CtrlHeadRead}
-use Rattle.read_ctrls.specs.declared.CtrlHeadRead.TheVariants as head
-use Rattle.read_ctrls.specs.declared.EdgesRead.{EdgesRead}
-use Rattle.read_ctrls.specs.declared.EdgesRead.TheVariants as edges
 use Rattle.check_ctrls.specs.declared.Judged.{Judged}
-use Rattle.read_ctrls.specs.declared.CtrlRead.{CtrlRead}
-use Rattle.read_ctrls.specs.declared.CtrlRead.TheVariants as line
+use Rattle.read_cursor.specs.Answers.{Missed}
+use Rattle.read_cursor.specs.declared.Cursor.{Cursor}
+use Rattle.read_lines.specs.Stores.{Stored}
 use Rattle.check_edges.specs.Edges.{Edges}
 use Rattle.read_ctrls.specs.Judge.{State}
 
-abbrev pub head_answer : CtrlHeadRead → Option (CtrlHead × ℕ)
-head_answer (head.Read h c) = some (h, c.at)
-head_answer head.Other = none
+-- what a function that reads and judges answers: the state behind what was stored is told by the answer, and of a miss nothing more is said
+abbrev pub StoresWith : {A B S : Type 0} → (List ℕ → Reading A) → (A → S → S) → Cursor → Option (B × Cursor) → S → (B → S) → Type 0
+StoresWith read f c None w after = Missed read c
+StoresWith read f c (Some x) w after = Stored read f c x.1 w (after x.0)
 
--- entries: the next place, and the state, of which nothing is said after a refusal
-abbrev pub edges_on : EdgesRead → Option (Unit {0} × ℕ)
-edges_on (edges.Read b c) = some (tt, c.at)
-edges_on edges.Refused = none
-
-abbrev pub fit_of : EdgesRead → Bool
-fit_of (edges.Read b c) = b
-fit_of edges.Refused = false
-
+-- the state of the entries of a line, and that of the lines
 abbrev pub edges_state : List ℕ → List ℕ → Bool → Edges
 edges_state w m b = record { func = w; marks = m; fit = b }
-
--- a line: the same
-abbrev pub line_on : CtrlRead → Option (Unit {0} × ℕ)
-line_on (line.Read j c) = some (tt, c.at)
-line_on line.Refused = none
-
-abbrev pub none_judged : Judged
-none_judged = record { line = 0; opcodes = false; edges = false }
-
-abbrev pub judged_of : CtrlRead → Judged
-judged_of (line.Read j c) = j
-judged_of line.Refused = none_judged
 
 abbrev pub state_at : List ℕ → List ℕ → Judged → State
 state_at w m j = record { func = w; marks = m; line = j.line; opcodes = j.opcodes; edges = j.edges }

@@ -5,17 +5,15 @@ ghost use Rattle.func.specs.Layout.{func_need, values};
 ghost use Rattle.func.specs.Store.{count, folds};
 ghost use Rattle.func.specs.Rows.{entry_row};
 ghost use Rattle.work.specs.Layout.{work_need};
-ghost use Rattle.read_lines.specs.Stores.{Stores};
 ghost use Rattle.check_edges.specs.Edges.{ins_of, mark_entry, keep_edge};
 ghost use Rattle.read_ctrls.specs.Tails.{edges_form};
-ghost use Rattle.read_ctrls.specs.Answers.{edges_on, fit_of, edges_state};
+ghost use Rattle.read_ctrls.specs.Answers.{StoresWith, edges_state};
 
-use crate::EdgesRead;
 use check_edges::{mark, values_fit};
 use check_limits::both;
 use func::Marks;
 use func_pools::count;
-use read_cursor::{Cursor, NumberRead, Step};
+use read_cursor::Cursor;
 use read_fields::opened;
 use read_lines::Element;
 use read_lines::elements::list;
@@ -36,68 +34,63 @@ fn entry_end(func: &mut [u32], work: &mut [u32], from: Marks, line: u32, fit: bo
 }
 
 // ` (R V..)`.
-fn entry(
+fn entry<'a>(
     func: &mut [u32],
     work: &mut [u32],
-    text: &[u8],
     line: u32,
     fit: bool,
-    from: Cursor,
-) -> EdgesRead
+    from: Cursor<'a>,
+) -> Option<(bool, Cursor<'a>)>
     requires { (func_need ≤ length func.old) × (work_need ≤ length work.old) }
-    ensures stores { Stores entry_codec.read (keep_edge line) text.now from.at (edges_on result) (edges_state func.old work.old fit) (edges_state func.new work.new (fit_of result)) }
+    ensures stores { StoresWith entry_codec.read (keep_edge line) from.entry result (edges_state func.old work.old fit) (edges_state func.new work.new) }
     ensures func_len_unchanged { length func.new ≡ length func.old }
     ensures work_len_unchanged { length work.new ≡ length work.old }
 {
     let marks = func_store::begin(func);
-    let Step::On(b) = from.skip_space(text) else {
-        return EdgesRead::Refused;
-    };
-    let NumberRead::Number(r, c) = opened(text, b) else {
-        return EdgesRead::Refused;
-    };
-    let Step::On(d) = list(func, text, Element::Value, c) else {
-        return EdgesRead::Refused;
-    };
-    EdgesRead::Read(entry_end(func, work, marks, line, fit, r), d)
+    let b = from.skip_space()?;
+    let (r, c) = opened(b)?;
+    let d = list(func, Element::Value, c)?;
+    Some((entry_end(func, work, marks, line, fit, r), d))
 }
 
 // ` (R V..)..)`.
-fn entry_list(func: &mut [u32], work: &mut [u32], text: &[u8], line: u32, from: Cursor) -> EdgesRead
+fn entry_list<'a>(
+    func: &mut [u32],
+    work: &mut [u32],
+    line: u32,
+    from: Cursor<'a>,
+) -> Option<(bool, Cursor<'a>)>
     requires { (func_need ≤ length func.old) × (work_need ≤ length work.old) }
-    ensures stores { Stores entries_codec.read (folds (keep_edge line)) text.now from.at (edges_on result) (edges_state func.old work.old true) (edges_state func.new work.new (fit_of result)) }
+    ensures stores { StoresWith entries_codec.read (folds (keep_edge line)) from.entry result (edges_state func.old work.old true) (edges_state func.new work.new) }
     ensures func_len_unchanged { length func.new ≡ length func.old }
     ensures work_len_unchanged { length work.new ≡ length work.old }
 {
     let mut c = from;
     let mut fit = true;
     loop {
-        if let Step::On(d) = c.close(text) {
-            return EdgesRead::Read(fit, d);
+        if let Some(d) = c.close() {
+            return Some((fit, d));
         }
-        let EdgesRead::Read(f, d) = entry(func, work, text, line, fit, c) else {
-            return EdgesRead::Refused;
-        };
+        let (f, d) = entry(func, work, line, fit, c)?;
         fit = f;
         c = d;
     }
 }
 
 // ` (vals (R V..)..)`, which ends its line.
-pub fn edges(func: &mut [u32], work: &mut [u32], text: &[u8], line: u32, from: Cursor) -> EdgesRead
+pub fn edges<'a>(
+    func: &mut [u32],
+    work: &mut [u32],
+    line: u32,
+    from: Cursor<'a>,
+) -> Option<(bool, Cursor<'a>)>
     requires { (func_need ≤ length func.old) × (work_need ≤ length work.old) }
-    ensures stores { Stores edges_form.read (folds (keep_edge line)) text.now from.at (edges_on result) (edges_state func.old work.old true) (edges_state func.new work.new (fit_of result)) }
+    ensures stores { StoresWith edges_form.read (folds (keep_edge line)) from.entry result (edges_state func.old work.old true) (edges_state func.new work.new) }
     ensures func_len_unchanged { length func.new ≡ length func.old }
     ensures work_len_unchanged { length work.new ≡ length work.old }
 {
-    let Step::On(c) = from.word(text, b" (vals") else {
-        return EdgesRead::Refused;
-    };
-    let EdgesRead::Read(fit, d) = entry_list(func, work, text, line, c) else {
-        return EdgesRead::Refused;
-    };
-    let Step::On(e) = d.word(text, b")\n") else {
-        return EdgesRead::Refused;
-    };
-    EdgesRead::Read(fit, e)
+    let c = from.word(b" (vals")?;
+    let (fit, d) = entry_list(func, work, line, c)?;
+    let e = d.word(b")\n")?;
+    Some((fit, e))
 }

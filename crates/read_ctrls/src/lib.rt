@@ -6,8 +6,6 @@ pub mod entries; // entries.rt: the entries of a line
 pub mod kinds; // kinds.rt: K of a line, and the lists behind it
 pub mod line; // line.rt: a line, and all lines
 
-use check_ctrls::Judged;
-use read_cursor::Cursor;
 use read_insts::Control;
 
 // `(ctrl R A K`, an INST up to its opcode.
@@ -18,28 +16,9 @@ pub struct CtrlHead {
     pub kind: Control,
 }
 
+// Of all lines up to the end of the text: whether the opcodes and the edges of all of them fit.
 #[derive(Clone, Copy)]
-pub enum CtrlHeadRead {
-    Read(CtrlHead, Cursor),
-    Other,
-}
-
-// Entries: whether each so far fits.
-#[derive(Clone, Copy)]
-pub enum EdgesRead {
-    Read(bool, Cursor),
-    Refused,
-}
-
-#[derive(Clone, Copy)]
-pub enum CtrlRead {
-    Read(Judged, Cursor),
-    Refused,
-}
-
-// All lines, up to the end of the text: whether the opcodes and the edges of all of them fit.
-#[derive(Clone, Copy)]
-pub enum CtrlsRead {
-    Read(bool, bool),
-    Refused,
+pub struct CtrlsFit {
+    pub opcodes: bool,
+    pub edges: bool,
 }

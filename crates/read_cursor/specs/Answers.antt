@@ -1,15 +1,24 @@
--- What an answer of the cursor says was found, case by case: the number, if any, and the next place. Assumes nothing.
-use Rattle.std.proofs.Math.Option.{Option, none, some}
-use Rattle.std.specs.Prelude.{ℕ}
-use Rattle.read_cursor.specs.declared.Step.{Step}
-use Rattle.read_cursor.specs.declared.Step.TheVariants as step
-use Rattle.read_cursor.specs.declared.NumberRead.{NumberRead}
-use Rattle.read_cursor.specs.declared.NumberRead.TheVariants as number
+-- What a cursor's answer says: nothing, or what was found and the next cursor, which is a place of the same text. Assumes nothing.
+use Rattle.std.specs.Prelude.{◌≡◌, ℕ, List, Option, None, Some}
+use Rattle.lifting.specs.Digits.{Reading}
+use Rattle.read_cursor.specs.declared.Cursor.{Cursor}
+use Rattle.read_cursor.specs.Read.{Took, Denied}
 
-abbrev pub step_of : Step → Option (Unit {0} × ℕ)
-step_of (step.On c) = some (tt, c.at)
-step_of step.Refused = none
+pub record Reached {A : Type 0} (read : List ℕ → Reading A) (c : Cursor) (a : A) (d : Cursor) : Type 0 where
+  pub took : Took read c.text.now c.at a d.at
+  pub same_text : d.text ≡ c.text
 
-abbrev pub number_answer : NumberRead → Option (ℕ × ℕ)
-number_answer (number.Number n c) = some (n, c.at)
-number_answer number.Refused = none
+pub record Missed {A : Type 0} (read : List ℕ → Reading A) (c : Cursor) : Type 0 where
+  pub denied : Denied read c.text.now c.at
+
+-- f makes the definitions' value of the code's
+abbrev pub ReadsAs : {A B : Type 0} → (A → B) → (List ℕ → Reading B) → Cursor → Option (A × Cursor) → Type 0
+ReadsAs f read c None = Missed read c
+ReadsAs f read c (Some x) = Reached read c (f x.0) x.1
+
+abbrev pub ReadsOn : {A : Type 0} → (List ℕ → Reading A) → Cursor → Option (A × Cursor) → Type 0
+ReadsOn read c found = ReadsAs (λ a. a) read c found
+
+abbrev pub StepsOn : (List ℕ → Reading (Unit {0})) → Cursor → Option Cursor → Type 0
+StepsOn read c None = Missed read c
+StepsOn read c (Some d) = Reached read c tt d

@@ -1,15 +1,20 @@
 -- What one step of the code is in the definitions, over plain variables. Assumes nothing.
---     by_answer, onward_both             how a caller goes by an answer, and from one step to the next
+--     onward_both                   from one step to the next
 --     behind-.., before-.., sub-..  what stands behind a literal
 --     head-..                       a word, two numbers and a head
 --     closed-..                     what a closing bracket ends
---     byte-.., along-..             a byte; a word, of which the loop has compared some bytes
-use Rattle.std.specs.Prelude.{◌≡◌, Bool, true, false, ℕ, ◌+◌, ◌-◌, ◌≤◌, ◌<◌, eqb, length, get_or, drop}
+--     byte-.., word-..              a byte; a word, by the test of its bytes
+use Rattle.std.specs.Prelude.{◌≡◌, Bool, true, false, ℕ, ◌+◌, ◌≤◌, ◌<◌, ◌&&◌, eqb, leb, length, get_or, drop, take}
+use Rattle.std.specs.List.{slice_range, starts_with}
+use Rattle.std.specs.Cmp.Lexicographic.{pointwise}
+use Rattle.std.proofs.lemmas.List.{drop-drop}
+use Rattle.std.proofs.lemmas.List.Folds.{drop_split}
 use Rattle.std.proofs.Math.Path.{refl, ap}
-use Rattle.std.proofs.Common.{sym, subst, ◌∙◌, not-suc-le-zero, le_of_suc-le-suc, add-zero, add-one, drop_of_length-le, length-drop, drop-cons, eq-eqb, ne_eqb}
+use Rattle.std.proofs.Common.{sym, ◌∙◌, le_refl, append-nil, not-suc-le-zero, le_of_suc-le-suc, add-one, drop_of_length-le, length-drop, drop-cons, eq-eqb, ne_eqb}
 use mathlib.Core.List.{List, [], ◌∷◌, ◌++◌}
 use Rattle.std.proofs.Math.Option.{Option, none, some, some-injective, none-ne-some}
 use native.Mathlib.Omega.{arith}
+use borrow.Author.Tests.{leb-true, leb-false}
 use Prim.Native.String.{String}
 use Rattle.lifting.specs.Bytes.{bytes}
 use Rattle.lifting.specs.Digits.{Reading}
@@ -18,11 +23,6 @@ use Rattle.lifting.specs.Grammar.{before, after_word, sub, closed, field}
 use Rattle.lifting.specs.Whole.{end}
 use Rattle.read_cursor.specs.Read.{Onward, Moves, Reads, Took, Denied, literal, behind_literal, TextEnded}
 use Rattle.read_cursor.specs.Begins.{then_nothing}
-
--- an answer that is known to be one of its cases: f gives what it says was found
-pub by_answer : {R A : Type 0} {read : List ℕ → Reading A} {text : List ℕ} {at : ℕ} (f : R → Option (A × ℕ)) {r s : R} → r ≡ s
-    → Reads read text at (f r) → Reads read text at (f s)
-by_answer {read = read} {text} {at} f e p = subst (λ r. Reads read text at (f r)) e p
 
 -- one step after another
 pub onward_both : {text : List ℕ} {at mid next : ℕ} → Onward text at mid → Onward text mid next → Onward text at next
@@ -119,6 +119,13 @@ pub not_ended : (t : List ℕ) (at : ℕ) → at < length t → TextEnded false 
 unfolding end
 not_ended t at h = rw (text_here t at h)
 
+pub ended : (t : List ℕ) (at : ℕ) → TextEnded (leb (length t) at) t at
+ended t at = go (leb (length t) at) refl
+  where
+    go : (q : Bool) → leb (length t) at ≡ q → TextEnded q t at
+    go true e = text_ended t at (leb-true (length t) at e)
+    go false e = not_ended t at (leb-false (length t) at e)
+
 -- a literal, by the text behind it
 pub stripped : (s : List ℕ) {t : List ℕ} {at next : ℕ} → strip s (drop at t) ≡ some (drop next t) → Onward t at next → Took (literal s) t at tt next
 stripped s e m = record { is = rw e; moves = m }
@@ -141,12 +148,32 @@ module _ (b : ℕ) {t : List ℕ} {at : ℕ} where
   unfolding strip
   byte_miss h e = missed (b ∷ []) (ap (strip (b ∷ [])) (text_here t at h) ∙ rw (ne_eqb b (get_or t at 0) (λ p. e (sym p)), strip))
 
--- a word: the loop stands after i bytes that agree
-pub record WordAlong (s text : List ℕ) (from i : ℕ) : Type 0 where
-  pub some_bytes : 1 ≤ length s
-  pub room : from + length s ≤ length text
-  pub fits : i ≤ length s
-  pub same : strip s (drop from text) ≡ strip (drop i s) (drop (from + i) text)
+-- a word, by what a test of its bytes told
+strip_tested : (s l : List ℕ) → strip s l ≡ elim (starts_with eqb l s) as (λ x. Option (List ℕ)) [ true ↦ some (drop (length s) l) | false ↦ none ]
+unfolding strip
+strip_tested [] l = refl
+strip_tested (b ∷ s) [] = refl
+strip_tested (b ∷ s) (c ∷ l) = go (strip_tested s l) (eqb b c)
+  where
+    go : strip s l ≡ elim (pointwise eqb s (take (length s) l)) as (λ x. Option (List ℕ)) [ true ↦ some (drop (length s) l) | false ↦ none ] → (q : Bool)
+        → elim q as (λ x. Option (List ℕ)) [ true ↦ strip s l | false ↦ none ]
+        ≡ elim (q && pointwise eqb s (take (length s) l)) as (λ x. Option (List ℕ)) [ true ↦ some (drop (length s) l) | false ↦ none ]
+    go h true = h
+    go h false = refl
+
+-- what stands at a place of the text, as a slice of it
+from_place : (t : List ℕ) (at : ℕ) → at ≤ length t → slice_range t at (length t) ≡ drop at t
+from_place t at h = sym (drop_split t at (length t) h ∙ rw (drop_of_length-le t (le_refl (length t))) (append-nil (slice_range t at (length t))))
+
+module _ (s t : List ℕ) {rest : List ℕ} {at : ℕ} (i : at ≤ length t) (e : rest ≡ slice_range t at (length t)) where
+  tested : (r : Bool) → r ≡ starts_with eqb rest s → strip s (drop at t) ≡ elim r as (λ x. Option (List ℕ)) [ true ↦ some (drop (length s) rest) | false ↦ none ]
+  tested r p = rw (sym (from_place t at i), sym e, p) (strip_tested s rest)
+
+  pub word_miss : false ≡ starts_with eqb rest s → Denied (literal s) t at
+  word_miss p = missed s (tested false p)
+
+  pub word_hit : 1 ≤ length s → length s ≤ length rest → length rest + at ≡ length t → true ≡ starts_with eqb rest s → Took (literal s) t at tt (at + length s)
+  word_hit k m j p = stripped s (tested true p ∙ rw (e, from_place t at i) (ap some (drop-drop (length s) at t))) (record { moved = omega arith; fits = omega arith })
 
 strip_short : (s l : List ℕ) → length l < length s → strip s l ≡ none
 unfolding strip
@@ -160,36 +187,3 @@ strip_short (b ∷ s) (c ∷ l) h = go (strip_short s l (le_of_suc-le-suc h)) (e
 
 pub along_past : (s : List ℕ) {t : List ℕ} {at : ℕ} → length t < at + length s → 1 ≤ length s → Denied (literal s) t at
 along_past s {t} {at} h k = missed s (strip_short s (drop at t) (omega (arith, length-drop at t)))
-
-pub word_along_first : {s text : List ℕ} {from : ℕ} → 1 ≤ length s → from + length s ≤ length text → WordAlong s text from 0
-word_along_first {s} {text} {from} k h =
-    record { some_bytes = k; room = h; fits = omega arith; same = ap (λ (k : ℕ). strip s (drop k text)) (sym (add-zero from)) }
-
-module _ {s text : List ℕ} {from i : ℕ} (a : WordAlong s text from i) where
-  -- the bytes that the loop compares
-  facing : i < length s → strip s (drop from text) ≡ strip (get_or s i 0 ∷ drop (i + 1) s) (get_or text (from + i) 0 ∷ drop (from + i + 1) text)
-  facing h =
-      a.same
-      ∙ ap (λ (l : List ℕ). strip l (drop (from + i) text)) (text_here s i h)
-      ∙ ap (strip (get_or s i 0 ∷ drop (i + 1) s)) (text_here text (from + i) (omega (arith, a.room)))
-
-  pub along_miss : i < length s → (get_or text (from + i) 0 ≡ get_or s i 0 → ⊥) → Denied (literal s) text from
-  unfolding strip
-  along_miss h e = missed s (facing h ∙ rw (ne_eqb (get_or s i 0) (get_or text (from + i) 0) (λ p. e (sym p)), strip))
-
-  pub along_next : i < length s → get_or text (from + i) 0 ≡ get_or s i 0 → WordAlong s text from (i + 1)
-  unfolding strip
-  along_next h e =
-      let k : from + i + 1 ≡ from + (i + 1) = omega arith in
-      record {
-        some_bytes = a.some_bytes;
-        room = a.room;
-        fits = omega arith;
-        same = facing h ∙ rw (eq-eqb (get_or s i 0) (get_or text (from + i) 0) (sym e), strip) (ap (λ (k : ℕ). strip (drop (i + 1) s) (drop k text)) k);
-      }
-
-  pub along_done : length s ≤ i → Took (literal s) text from tt (from + i)
-  unfolding strip
-  along_done h =
-      stripped s (a.same ∙ ap (λ (l : List ℕ). strip l (drop (from + i) text)) (drop_of_length-le s h))
-      (record { moved = omega (arith, a.some_bytes); fits = omega (arith, a.room, a.fits) })

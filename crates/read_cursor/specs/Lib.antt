@@ -3,3 +3,4 @@ pub mod Laws
 pub mod Read
 pub mod Answers
 pub mod Begins
+pub mod Chains

@@ -1,140 +1,111 @@
 // Reads the bytes, words and numbers of which a line of the text is made. A cursor is a place of the text, by value; each of its steps answers
-// with what it read and the next cursor, or that it refused, and the promise of each is the grammar's own reader for that form (`Reads`,
-// specs/Read.antt). Fields, forms, values and the heads of lines are read by crates above, each from a cursor.
+// with what it read and the next cursor, or with nothing, and the promise of each is the grammar's own reader for that form (`ReadsOn`,
+// specs/Answers.antt). Fields, forms, values and the heads of lines are read by crates above, each from a cursor.
 #![tactic(auto)]
 
-ghost use Rattle.std.specs.Prelude.{◌≡◌, [], ◌∷◌, ◌≤◌, length};
+ghost use Rattle.std.specs.Prelude.{[], ◌∷◌, ◌≤◌, length};
 ghost use Rattle.lifting.specs.Bytes.{bytes};
 ghost use Rattle.lifting.specs.Digits.{number};
-ghost use Rattle.read_cursor.specs.Read.{Reads, TextEnded, literal};
-ghost use Rattle.read_cursor.specs.Answers.{step_of, number_answer};
+ghost use Rattle.read_cursor.specs.Read.{TextEnded, literal};
+ghost use Rattle.read_cursor.specs.Answers.{ReadsOn, StepsOn};
 
 #[derive(Clone, Copy)]
-pub struct Cursor {
+pub struct Cursor<'a> {
+    pub text: &'a [u8],
     pub at: usize,
 }
 
-// Every answer has two cases: only then does the else of a `let .. else` know which one it is in.
-#[derive(Clone, Copy)]
-pub enum Step {
-    On(Cursor),
-    Refused,
-}
-
-#[derive(Clone, Copy)]
-pub enum NumberRead {
-    Number(u32, Cursor),
-    Refused,
-}
-
-fn wide(b: u8) -> u64
-    ensures { result ≡ b }
-{
-    b as u64
-}
-
-impl Cursor {
+impl<'a> Cursor<'a> {
     // One byte.
-    fn byte(self, text: &[u8], b: u8) -> Step
-        ensures { Reads (literal (b ∷ [])) text.now self.at (step_of result) }
+    fn byte(self, b: u8) -> Option<Cursor<'a>>
+        ensures { StepsOn (literal (b ∷ [])) self.entry result }
     {
-        let at = self.at;
-        if text.len() <= at {
-            return Step::Refused;
+        if *self.text.get(self.at)? == b {
+            return Some(Cursor {
+                text: self.text,
+                at: self.at + 1,
+            });
         }
-        if text[at] == b {
-            Step::On(Cursor { at: at + 1 })
-        } else {
-            Step::Refused
-        }
+        None
     }
 
-    pub fn skip_space(self, text: &[u8]) -> Step
-        ensures { Reads (literal (bytes " ")) text.now self.at (step_of result) }
+    pub fn skip_space(self) -> Option<Cursor<'a>>
+        ensures { StepsOn (literal (bytes " ")) self.entry result }
     {
-        self.byte(text, b' ')
+        self.byte(b' ')
     }
 
-    pub fn open(self, text: &[u8]) -> Step
-        ensures { Reads (literal (bytes "(")) text.now self.at (step_of result) }
+    pub fn open(self) -> Option<Cursor<'a>>
+        ensures { StepsOn (literal (bytes "(")) self.entry result }
     {
-        self.byte(text, b'(')
+        self.byte(b'(')
     }
 
-    pub fn close(self, text: &[u8]) -> Step
-        ensures { Reads (literal (bytes ")")) text.now self.at (step_of result) }
+    pub fn close(self) -> Option<Cursor<'a>>
+        ensures { StepsOn (literal (bytes ")")) self.entry result }
     {
-        self.byte(text, b')')
+        self.byte(b')')
     }
 
     // At the end of the text?
-    pub fn end(self, text: &[u8]) -> bool
-        ensures { TextEnded result text.now self.at }
+    pub fn end(self) -> bool
+        ensures { TextEnded result self.entry.text.now self.entry.at }
     {
-        let at = self.at;
-        if text.len() <= at {
-            return true;
-        }
-        false
+        self.text.len() <= self.at
     }
 
     // A literal, of at least one byte.
-    pub fn word(self, text: &[u8], s: &[u8]) -> Step
+    pub fn word(self, s: &[u8]) -> Option<Cursor<'a>>
         requires { 1 ≤ length s.now }
-        ensures { Reads (literal s.now) text.now self.at (step_of result) }
+        ensures { StepsOn (literal s.now) self.entry result }
     {
-        let from = self.at;
-        if text.len() < from {
-            return Step::Refused;
+        if !self.text.get(self.at..)?.starts_with(s) {
+            return None;
         }
-        if text.len() - from < s.len() {
-            return Step::Refused;
-        }
-        let mut i: usize = 0;
-        while i < s.len() {
-            if text[from + i] != s[i] {
-                return Step::Refused;
-            }
-            i += 1;
-        }
-        Step::On(Cursor { at: from + i })
+        Some(Cursor {
+            text: self.text,
+            at: self.at + s.len(),
+        })
     }
 
     // A number: a 0 alone, or digits that begin with another, below 2 ^ 32.
-    pub fn number(self, text: &[u8]) -> NumberRead
-        ensures { Reads number text.now self.at (number_answer result) }
+    pub fn number(self) -> Option<(u32, Cursor<'a>)>
+        ensures { ReadsOn number self.entry result }
     {
-        let at = self.at;
-        if text.len() <= at {
-            return NumberRead::Refused;
+        let first = *self.text.get(self.at)?;
+        if !first.is_ascii_digit() {
+            return None;
         }
-        let first = text[at];
-        if first < 48 {
-            return NumberRead::Refused;
+        let start = self.at + 1;
+        if first == b'0' {
+            return Some((
+                0,
+                Cursor {
+                    text: self.text,
+                    at: start,
+                },
+            ));
         }
-        if 57 < first {
-            return NumberRead::Refused;
-        }
-        let mut i = at + 1;
-        if first == 48 {
-            return NumberRead::Number(0, Cursor { at: i });
-        }
-        let mut n = wide(first - 48);
-        while i < text.len() {
-            let b = text[i];
-            if b < 48 {
-                return NumberRead::Number(n as u32, Cursor { at: i });
+        let mut n = u32::from(first - b'0');
+        for i in start..self.text.len() {
+            let b = self.text[i];
+            if !b.is_ascii_digit() {
+                return Some((
+                    n,
+                    Cursor {
+                        text: self.text,
+                        at: i,
+                    },
+                ));
             }
-            if 57 < b {
-                return NumberRead::Number(n as u32, Cursor { at: i });
-            }
-            let m = n * 10 + wide(b - 48);
-            if 4294967295 < m {
-                return NumberRead::Refused;
-            }
-            n = m;
-            i += 1;
+            n = n.checked_mul(10)?.checked_add(u32::from(b - b'0'))?;
         }
-        NumberRead::Number(n as u32, Cursor { at: i })
+        Some((
+            n,
+            Cursor {
+                text: self.text,
+                at: self.text.len(),
+            },
+        ))
     }
 }

@@ -1,2 +1,2 @@
--- What the readers of fields answer.
+-- What the answers of the readers of fields say was found.
 pub mod Answers

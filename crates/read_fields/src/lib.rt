@@ -1,144 +1,95 @@
 // Reads numbers, each behind a space, a bracket or a literal and up to a closing bracket; `(A T)`, and an immediate. The promise of each is
 // the grammar's own reader for that form.
-#![tactic(auto)]
+#![tactic(auto, using(read_cursor::specs::Chains::chains))]
 
 ghost use Rattle.std.specs.Prelude.{◌≤◌, length};
 ghost use Rattle.lifting.specs.Codec.{seq};
 ghost use Rattle.lifting.specs.Grammar.{field, open1, one_codec, two, decl, imm_codec};
-ghost use Rattle.read_cursor.specs.Read.{Reads, behind_literal};
-ghost use Rattle.read_cursor.specs.Answers.{number_answer};
-ghost use Rattle.read_fields.specs.Answers.{pair_answer, decl_answer, imm_answer};
+ghost use Rattle.read_cursor.specs.Read.{behind_literal};
+ghost use Rattle.read_cursor.specs.Answers.{ReadsOn, ReadsAs};
+ghost use Rattle.read_fields.specs.Answers.{as_decl, as_imm};
 
-use read_cursor::{Cursor, NumberRead, Step};
-
-#[derive(Clone, Copy)]
-pub enum PairRead {
-    Pair(u32, u32, Cursor),
-    Refused,
-}
-
-// Kind, operand kind and word.
-#[derive(Clone, Copy)]
-pub enum ImmRead {
-    Imm(u32, u32, u32, Cursor),
-    Refused,
-}
+use read_cursor::Cursor;
 
 // A number after a space.
-pub fn field(text: &[u8], from: Cursor) -> NumberRead
-    ensures { Reads field.read text.now from.at (number_answer result) }
+#[tactic(auto, using(read_cursor::specs::Chains::chains), unfolding(lifting::specs::Grammar::field))]
+pub fn field(from: Cursor<'_>) -> Option<(u32, Cursor<'_>)>
+    ensures { ReadsOn field.read from.entry result }
 {
-    let Step::On(c) = from.skip_space(text) else {
-        return NumberRead::Refused;
-    };
-    c.number(text)
+    from.skip_space()?.number()
 }
 
 // A number after an opening bracket.
-pub fn opened(text: &[u8], from: Cursor) -> NumberRead
-    ensures { Reads open1.read text.now from.at (number_answer result) }
+#[tactic(auto, using(read_cursor::specs::Chains::chains), unfolding(lifting::specs::Grammar::open1))]
+pub fn opened(from: Cursor<'_>) -> Option<(u32, Cursor<'_>)>
+    ensures { ReadsOn open1.read from.entry result }
 {
-    let Step::On(c) = from.open(text) else {
-        return NumberRead::Refused;
-    };
-    c.number(text)
+    from.open()?.number()
 }
 
 // Two numbers, each after a space.
-pub fn pair(text: &[u8], from: Cursor) -> PairRead
-    ensures { Reads (seq field field).read text.now from.at (pair_answer result) }
+pub fn pair(from: Cursor<'_>) -> Option<((u32, u32), Cursor<'_>)>
+    ensures { ReadsOn (seq field field).read from.entry result }
 {
-    let NumberRead::Number(m, c) = field(text, from) else {
-        return PairRead::Refused;
-    };
-    let NumberRead::Number(n, d) = field(text, c) else {
-        return PairRead::Refused;
-    };
-    PairRead::Pair(m, n, d)
+    let (m, c) = field(from)?;
+    let (n, d) = field(c)?;
+    Some(((m, n), d))
 }
 
 // ` N)`.
-pub fn one(text: &[u8], from: Cursor) -> NumberRead
-    ensures { Reads one_codec.read text.now from.at (number_answer result) }
+#[tactic(auto, using(read_cursor::specs::Chains::chains), unfolding(lifting::specs::Grammar::one_codec))]
+pub fn one(from: Cursor<'_>) -> Option<(u32, Cursor<'_>)>
+    ensures { ReadsOn one_codec.read from.entry result }
 {
-    let NumberRead::Number(n, c) = field(text, from) else {
-        return NumberRead::Refused;
-    };
-    let Step::On(d) = c.close(text) else {
-        return NumberRead::Refused;
-    };
-    NumberRead::Number(n, d)
+    let (n, c) = field(from)?;
+    let d = c.close()?;
+    Some((n, d))
 }
 
 // ` N N)`.
-pub fn two(text: &[u8], from: Cursor) -> PairRead
-    ensures { Reads two.read text.now from.at (pair_answer result) }
+#[tactic(auto, using(read_cursor::specs::Chains::chains), unfolding(lifting::specs::Grammar::two))]
+pub fn two(from: Cursor<'_>) -> Option<((u32, u32), Cursor<'_>)>
+    ensures { ReadsOn two.read from.entry result }
 {
-    let PairRead::Pair(m, n, c) = pair(text, from) else {
-        return PairRead::Refused;
-    };
-    let Step::On(d) = c.close(text) else {
-        return PairRead::Refused;
-    };
-    PairRead::Pair(m, n, d)
+    let (x, c) = pair(from)?;
+    let d = c.close()?;
+    Some((x, d))
 }
 
 // ` (A T)`: attributes and type.
-pub fn decl(text: &[u8], from: Cursor) -> PairRead
-    ensures { Reads decl.read text.now from.at (decl_answer result) }
+#[tactic(auto, using(read_cursor::specs::Chains::chains), unfolding(lifting::specs::Grammar::decl, lifting::specs::Grammar::decl_codec))]
+pub fn decl(from: Cursor<'_>) -> Option<((u32, u32), Cursor<'_>)>
+    ensures { ReadsAs as_decl decl.read from.entry result }
 {
-    let Step::On(a) = from.skip_space(text) else {
-        return PairRead::Refused;
-    };
-    let NumberRead::Number(m, b) = opened(text, a) else {
-        return PairRead::Refused;
-    };
-    let NumberRead::Number(n, c) = field(text, b) else {
-        return PairRead::Refused;
-    };
-    let Step::On(d) = c.close(text) else {
-        return PairRead::Refused;
-    };
-    PairRead::Pair(m, n, d)
+    let (attrs, c) = opened(from.skip_space()?)?;
+    let (ty, d) = field(c)?;
+    let e = d.close()?;
+    Some(((attrs, ty), e))
 }
 
 // ` (kind operandkind word)`.
-pub fn imm(text: &[u8], from: Cursor) -> ImmRead
-    ensures { Reads imm_codec.read text.now from.at (imm_answer result) }
+#[tactic(auto, using(read_cursor::specs::Chains::chains), unfolding(lifting::specs::Grammar::imm_codec))]
+pub fn imm(from: Cursor<'_>) -> Option<((u32, (u32, u32)), Cursor<'_>)>
+    ensures { ReadsAs as_imm imm_codec.read from.entry result }
 {
-    let Step::On(a) = from.skip_space(text) else {
-        return ImmRead::Refused;
-    };
-    let NumberRead::Number(k, b) = opened(text, a) else {
-        return ImmRead::Refused;
-    };
-    let PairRead::Pair(o, w, c) = pair(text, b) else {
-        return ImmRead::Refused;
-    };
-    let Step::On(d) = c.close(text) else {
-        return ImmRead::Refused;
-    };
-    ImmRead::Imm(k, o, w, d)
+    let (kind, c) = opened(from.skip_space()?)?;
+    let (rest, d) = pair(c)?;
+    let e = d.close()?;
+    Some(((kind, rest), e))
 }
 
 // A literal, and a number after a space.
-pub fn after(text: &[u8], from: Cursor, s: &[u8]) -> NumberRead
+pub fn after<'a>(from: Cursor<'a>, s: &[u8]) -> Option<(u32, Cursor<'a>)>
     requires { 1 ≤ length s.now }
-    ensures { Reads (behind_literal s.now field.read) text.now from.at (number_answer result) }
+    ensures { ReadsOn (behind_literal s.now field.read) from.entry result }
 {
-    let Step::On(c) = from.word(text, s) else {
-        return NumberRead::Refused;
-    };
-    field(text, c)
+    field(from.word(s)?)
 }
 
 // A literal, and two numbers, each after a space.
-pub fn pair_after(text: &[u8], from: Cursor, s: &[u8]) -> PairRead
+pub fn pair_after<'a>(from: Cursor<'a>, s: &[u8]) -> Option<((u32, u32), Cursor<'a>)>
     requires { 1 ≤ length s.now }
-    ensures { Reads (behind_literal s.now (seq field field).read) text.now from.at (pair_answer result) }
+    ensures { ReadsOn (behind_literal s.now (seq field field).read) from.entry result }
 {
-    let Step::On(c) = from.word(text, s) else {
-        return PairRead::Refused;
-    };
-    pair(text, c)
+    pair(from.word(s)?)
 }

@@ -4,7 +4,7 @@
 ghost use Rattle.read_cursor.specs.Read.{Reads};
 ghost use Rattle.read_first.specs.Opening.{first_line_form, first_answer};
 
-use read_cursor::{Cursor, NumberRead, Step};
+use read_cursor::Cursor;
 use read_fields::one;
 
 // The first id and the place where the text starts.
@@ -18,14 +18,14 @@ pub enum First {
 pub fn first_line(input: &[u8]) -> First
     ensures { Reads first_line_form.read input.now 0 (first_answer result) }
 {
-    let start = Cursor { at: 0 };
-    let Step::On(a) = start.word(input, b"(first") else {
+    let start = Cursor { text: input, at: 0 };
+    let Some(a) = start.word(b"(first") else {
         return First::Bad;
     };
-    let NumberRead::Number(n, b) = one(input, a) else {
+    let Some((n, b)) = one(a) else {
         return First::Bad;
     };
-    let Step::On(c) = b.word(input, b"\n") else {
+    let Some(c) = b.word(b"\n") else {
         return First::Bad;
     };
     First::At(n, c.at)

@@ -4,29 +4,23 @@
 ghost use Rattle.std.specs.Prelude.{◌≡◌, ◌+◌, ◌≤◌, ◌<◌};
 ghost use Rattle.read_forms.specs.Form.{deeper, closes, form_at};
 
+#[tactic(auto, using(crate::proofs::Laws::deeper_open, crate::proofs::Laws::deeper_close, crate::proofs::Laws::deeper_other))]
 fn deeper(b: u8, d: usize) -> usize
     requires { d < 18446744073709551615 }
     ensures { (result ≡ deeper b d) × (result ≤ d + 1) }
 {
-    if b == 40 {
-        return d + 1;
+    match b {
+        b'(' => d + 1,
+        b')' => d.saturating_sub(1),
+        _ => d,
     }
-    if b == 41 {
-        if 0 < d {
-            return d - 1;
-        }
-        return 0;
-    }
-    d
 }
 
+#[tactic(auto, using(crate::proofs::Laws::closes_yes, crate::proofs::Laws::closes_no))]
 fn closes(b: u8, d: usize) -> bool
     ensures { result ≡ closes b d }
 {
-    if b == 41 {
-        return d == 0;
-    }
-    false
+    b == b')' && d == 0
 }
 
 // The part of the text between the bracket at a place and the one that closes it: no part where none does.
@@ -34,18 +28,16 @@ pub fn form(text: &[u8], at: usize) -> &[u8]
     ensures { result.now ≡ form_at text.now at }
 {
     if text.len() <= at {
-        return &text[0..0];
+        return &[];
     }
     let start = at + 1;
     let mut d: usize = 0;
-    let mut i = start;
-    while i < text.len() {
+    for i in start..text.len() {
         let b = text[i];
         if closes(b, d) {
             return &text[start..i];
         }
         d = deeper(b, d);
-        i += 1;
     }
-    &text[0..0]
+    &[]
 }

@@ -1,55 +1,49 @@
 // K of a select and K of a ctrl.
 ghost use Rattle.lifting.specs.Grammar.{sub};
-ghost use Rattle.read_cursor.specs.Read.{Reads};
-ghost use Rattle.read_cursor.specs.Answers.{number_answer};
-ghost use Rattle.read_insts.specs.Answers.{selection_answer, control_of};
+ghost use Rattle.read_cursor.specs.Answers.{ReadsOn};
 ghost use Rattle.read_insts.specs.Heads.{inst_head, selection_head, control_head};
 
 use crate::ops::inst;
-use crate::{Control, ControlRead, Selection, SelectionRead};
-use read_cursor::{Cursor, NumberRead, Step};
+use crate::{Control, Selection};
+use read_cursor::Cursor;
 
 // K of a select: ` bool`, or an INST up to its opcode.
-pub fn selection(text: &[u8], from: Cursor) -> SelectionRead
-    ensures { Reads selection_head.read text.now from.at (selection_answer result) }
+#[tactic(auto, using(read_cursor::specs::Chains::choices), unfolding(crate::specs::Heads::selection_head, crate::specs::Heads::selection_head_form, lifting::specs::Grammar::keyword))]
+pub fn selection(from: Cursor<'_>) -> Option<(Selection, Cursor<'_>)>
+    ensures { ReadsOn selection_head.read from.entry result }
 {
-    if let Step::On(c) = from.word(text, b" bool") {
-        return SelectionRead::Kind(Selection::Bool, c);
+    if let Some(c) = from.word(b" bool") {
+        return Some((Selection::Bool, c));
     }
-    let NumberRead::Number(n, c) = inst(text, from) else {
-        return SelectionRead::Refused;
-    };
-    SelectionRead::Kind(Selection::Inst(n), c)
+    let (n, c) = inst(from)?;
+    Some((Selection::Inst(n), c))
 }
 
 // ` (exit (inst OP`.
-fn exit(text: &[u8], from: Cursor) -> NumberRead
-    ensures { Reads (sub "exit" inst_head).read text.now from.at (number_answer result) }
+#[tactic(auto, using(read_cursor::specs::Chains::chains))]
+fn exit(from: Cursor<'_>) -> Option<(u32, Cursor<'_>)>
+    ensures { ReadsOn (sub "exit" inst_head).read from.entry result }
 {
-    let Step::On(c) = from.word(text, b" (exit") else {
-        return NumberRead::Refused;
-    };
-    inst(text, c)
+    inst(from.word(b" (exit")?)
 }
 
 // K of a ctrl, an INST up to its opcode.
-pub fn control(text: &[u8], from: Cursor) -> ControlRead
-    ensures { Reads control_head.read text.now from.at (control_of result) }
+#[tactic(auto, using(read_cursor::specs::Chains::choices), unfolding(crate::specs::Heads::control_head, crate::specs::Heads::control_head_form, crate::specs::Heads::plain_head, crate::specs::Heads::words, lifting::specs::Grammar::keyword))]
+pub fn control(from: Cursor<'_>) -> Option<(Control, Cursor<'_>)>
+    ensures { ReadsOn control_head.read from.entry result }
 {
-    if let Step::On(c) = from.word(text, b" unreachable") {
-        return ControlRead::Kind(Control::Unreachable, c);
+    if let Some(c) = from.word(b" unreachable") {
+        return Some((Control::Unreachable, c));
     }
-    if let Step::On(c) = from.word(text, b" return") {
-        return ControlRead::Kind(Control::Return, c);
+    if let Some(c) = from.word(b" return") {
+        return Some((Control::Return, c));
     }
-    if let Step::On(c) = from.word(text, b" branch") {
-        return ControlRead::Kind(Control::Branch, c);
+    if let Some(c) = from.word(b" branch") {
+        return Some((Control::Branch, c));
     }
-    if let NumberRead::Number(n, c) = exit(text, from) {
-        return ControlRead::Kind(Control::Exit(n), c);
+    if let Some((n, c)) = exit(from) {
+        return Some((Control::Exit(n), c));
     }
-    let SelectionRead::Kind(k, c) = selection(text, from) else {
-        return ControlRead::Refused;
-    };
-    ControlRead::Kind(Control::Select(k), c)
+    let (k, c) = selection(from)?;
+    Some((Control::Select(k), c))
 }

@@ -3,7 +3,6 @@
 #![tactic(auto)]
 
 use func::OpKind;
-use read_cursor::Cursor;
 
 pub mod controls;
 pub mod ops;
@@ -16,29 +15,11 @@ pub struct Op {
     pub kind: OpKind,
 }
 
-#[derive(Clone, Copy)]
-pub enum OpKindRead {
-    Kind(OpKind, Cursor),
-    Refused,
-}
-
-#[derive(Clone, Copy)]
-pub enum OpRead {
-    Read(Op, Cursor),
-    Refused,
-}
-
 // What a selection goes by: `bool`, or an INST's opcode, whose immediates follow.
 #[derive(Clone, Copy)]
 pub enum Selection {
     Bool,
     Inst(u32),
-}
-
-#[derive(Clone, Copy)]
-pub enum SelectionRead {
-    Kind(Selection, Cursor),
-    Refused,
 }
 
 // K of a ctrl. After the opcode of an `Exit` follow its immediates and one more closing bracket.
@@ -49,10 +30,4 @@ pub enum Control {
     Branch,
     Exit(u32),
     Select(Selection),
-}
-
-#[derive(Clone, Copy)]
-pub enum ControlRead {
-    Kind(Control, Cursor),
-    Refused,
 }

@@ -1,68 +1,57 @@
 // The heads of an op line and of its X.
 ghost use Rattle.lifting.specs.Grammar.{one_codec, two, sub};
-ghost use Rattle.read_cursor.specs.Read.{Reads};
-ghost use Rattle.read_cursor.specs.Answers.{number_answer};
-ghost use Rattle.read_fields.specs.Answers.{pair_answer};
-ghost use Rattle.read_insts.specs.Answers.{op_kind_of, op_answer};
+ghost use Rattle.read_cursor.specs.Answers.{ReadsOn};
 ghost use Rattle.read_insts.specs.Heads.{inst_head, op_kind_head, op_head};
 
-use crate::{Op, OpKindRead, OpRead};
+use crate::Op;
 use func::OpKind;
-use read_cursor::{Cursor, NumberRead, Step};
-use read_fields::{PairRead, after, one, pair_after, two};
+use read_cursor::Cursor;
+use read_fields::{after, one, pair_after, two};
 
 // ` (inst OP`.
-pub fn inst(text: &[u8], from: Cursor) -> NumberRead
-    ensures { Reads inst_head.read text.now from.at (number_answer result) }
+#[tactic(auto, using(read_cursor::specs::Chains::choices), unfolding(crate::specs::Heads::inst_head, lifting::specs::Grammar::sub))]
+pub fn inst(from: Cursor<'_>) -> Option<(u32, Cursor<'_>)>
+    ensures { ReadsOn inst_head.read from.entry result }
 {
-    after(text, from, b" (inst")
+    after(from, b" (inst")
 }
 
 // ` (call ID)`.
-fn call(text: &[u8], from: Cursor) -> NumberRead
-    ensures { Reads (sub "call" one_codec).read text.now from.at (number_answer result) }
+#[tactic(auto, using(read_cursor::specs::Chains::chains))]
+fn call(from: Cursor<'_>) -> Option<(u32, Cursor<'_>)>
+    ensures { ReadsOn (sub "call" one_codec).read from.entry result }
 {
-    let Step::On(c) = from.word(text, b" (call") else {
-        return NumberRead::Refused;
-    };
-    one(text, c)
+    one(from.word(b" (call")?)
 }
 
 // ` (ext ID N)`.
-fn ext(text: &[u8], from: Cursor) -> PairRead
-    ensures { Reads (sub "ext" two).read text.now from.at (pair_answer result) }
+#[tactic(auto, using(read_cursor::specs::Chains::chains))]
+fn ext(from: Cursor<'_>) -> Option<((u32, u32), Cursor<'_>)>
+    ensures { ReadsOn (sub "ext" two).read from.entry result }
 {
-    let Step::On(c) = from.word(text, b" (ext") else {
-        return PairRead::Refused;
-    };
-    two(text, c)
+    two(from.word(b" (ext")?)
 }
 
 // X of an op, an INST up to its opcode.
-pub fn op_kind(text: &[u8], from: Cursor) -> OpKindRead
-    ensures { Reads op_kind_head.read text.now from.at (op_kind_of result) }
+#[tactic(auto, using(read_cursor::specs::Chains::choices), unfolding(crate::specs::Heads::op_kind_head, crate::specs::Heads::op_kind_head_form))]
+pub fn op_kind(from: Cursor<'_>) -> Option<(OpKind, Cursor<'_>)>
+    ensures { ReadsOn op_kind_head.read from.entry result }
 {
-    if let NumberRead::Number(n, c) = inst(text, from) {
-        return OpKindRead::Kind(OpKind::Inst(n), c);
+    if let Some((n, c)) = inst(from) {
+        return Some((OpKind::Inst(n), c));
     }
-    if let NumberRead::Number(n, c) = call(text, from) {
-        return OpKindRead::Kind(OpKind::Call(n), c);
+    if let Some((n, c)) = call(from) {
+        return Some((OpKind::Call(n), c));
     }
-    let PairRead::Pair(m, n, c) = ext(text, from) else {
-        return OpKindRead::Refused;
-    };
-    OpKindRead::Kind(OpKind::Ext(m, n), c)
+    let ((m, n), c) = ext(from)?;
+    Some((OpKind::Ext(m, n), c))
 }
 
 // `(op A T X`, the head of an op line.
-pub fn op(text: &[u8], from: Cursor) -> OpRead
-    ensures { Reads op_head.read text.now from.at (op_answer result) }
+pub fn op(from: Cursor<'_>) -> Option<(Op, Cursor<'_>)>
+    ensures { ReadsOn op_head.read from.entry result }
 {
-    let PairRead::Pair(attrs, ty, c) = pair_after(text, from, b"(op") else {
-        return OpRead::Refused;
-    };
-    let OpKindRead::Kind(kind, d) = op_kind(text, c) else {
-        return OpRead::Refused;
-    };
-    OpRead::Read(Op { attrs, ty, kind }, d)
+    let ((attrs, ty), c) = pair_after(from, b"(op")?;
+    let (kind, d) = op_kind(c)?;
+    Some((Op { attrs, ty, kind }, d))
 }

@@ -2,10 +2,12 @@
 --     Held, element_of, element_list    what an element of a kind is, and the readers of one and of a list of them
 --     keep_element, PoolPlaced        what stores one; the pool of a number has entries of one word
 --     listing                    a list is any number of elements, and then a closing bracket
---     pool_placed, as_element         a kind that is known to be this one
+--     pool_placed, element_..         a kind that is known to be this one
 use Rattle.std.specs.Prelude.{◌≡◌, refl, List, ◌++◌, ℕ, ◌<◌}
 use Rattle.std.proofs.Common.{sym, subst}
-use Rattle.std.proofs.Math.Option.{Option, none}
+use Rattle.std.proofs.Math.Option.{none}
+use Rattle.read_cursor.specs.Answers.{Missed}
+use Rattle.read_cursor.specs.declared.Cursor.{Cursor}
 use Rattle.lifting.specs.Ast
 use Rattle.lifting.specs.Bytes.{bytes}
 use Rattle.lifting.specs.Codec.{Codec, Led, strip, lit, num, seq, view_as, same, alt, list, list_over}
@@ -16,7 +18,7 @@ use Rattle.func.specs.Layout.{pool_total, entry_words}
 use Rattle.func.specs.Keep.{keep_decl, keep_value, keep_imm, keep_number}
 use Rattle.read_lines.specs.declared.Element.{Element}
 use Rattle.read_lines.specs.declared.Element.TheVariants.{Number, Value, Decl, Imm}
-use Rattle.read_lines.specs.Stores.{Listing, Stores}
+use Rattle.read_lines.specs.Stores.{Listing, Stored}
 
 abbrev pub Held : Element → Type 0
 Held (Number k) = ℕ
@@ -62,6 +64,8 @@ listing Value = list_listing value_codec_inverse (bytes ")") refl (λ r. refl)
 listing Decl = list_listing decl_inverse (bytes ")") refl (λ r. refl)
 listing Imm = list_listing imm_codec_inverse (bytes ")") refl (λ r. refl)
 
-pub as_element : {d e : Element} {text : List ℕ} {at : ℕ} {found : Option (Unit {0} × ℕ)} {w v : List ℕ} → d ≡ e
-    → Stores (element_of e).read (keep_element e) text at found w v → Stores (element_of d).read (keep_element d) text at found w v
-as_element {text = text} {at} {found} {w} {v} e s = subst (λ (z : Element). Stores (element_of z).read (keep_element z) text at found w v) (sym e) s
+pub element_missed : {d e : Element} {c : Cursor} → d ≡ e → Missed (element_of e).read c → Missed (element_of d).read c
+element_missed {c = c} e p = subst (λ (z : Element). Missed (element_of z).read c) (sym e) p
+
+pub element_stored : {d e : Element} {c x : Cursor} {w v : List ℕ} → d ≡ e → Stored (element_of e).read (keep_element e) c x w v → Stored (element_of d).read (keep_element d) c x w v
+element_stored {c = c} {x} {w} {v} e s = subst (λ (z : Element). Stored (element_of z).read (keep_element z) c x w v) (sym e) s

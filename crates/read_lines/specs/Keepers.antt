@@ -2,14 +2,15 @@
 --     keep_region_lists, keep_inst_values, ..     the lists of a line, in the order in which the text has them
 --     region_row_law, block_row, ..               what a line stores is its lists and then its row
 use Rattle.std.specs.Prelude.{◌≡◌, refl, List, ℕ}
-use Rattle.std.proofs.Common.{ap, ◌∙◌, append-nil}
-use Rattle.std.proofs.Math.Option.{none, some}
+use Rattle.std.proofs.Common.{ap, sym, ◌∙◌, append-nil}
 use Rattle.lifting.specs.Ast
 use Rattle.lifting.specs.Ast.{Value, Imm, Decl, Node, block, call, ext, bool_cond}
-use Rattle.lifting.specs.Codec.{seq}
+use Rattle.lifting.specs.Digits.{Reading}
+use Rattle.lifting.specs.Codec.{then, up, seq}
 use Rattle.lifting.specs.Grammar.{imms_codec, values_codec}
 use Rattle.lifting.specs.Parts.{children_of, outs_of, node_values, node_insts, op_insts, block_ops}
-use Rattle.read_cursor.specs.Read.{Took, Denied}
+use Rattle.read_cursor.specs.Answers.{Reached}
+use Rattle.read_cursor.specs.declared.Cursor.{Cursor}
 use Rattle.read_insts.specs.declared.Selection.{Selection}
 use Rattle.read_insts.specs.declared.Selection.TheVariants as sel
 use Rattle.func.specs.declared.OpKind.{OpKind}
@@ -17,7 +18,7 @@ use Rattle.func.specs.declared.OpKind.TheVariants as op
 use Rattle.func.specs.Store.{folds}
 use Rattle.func.specs.Keep.{inst_imms, keep_head, keep_decl, keep_value, keep_imm, keep_node_ref, keep_op_ref, keep_child, keep_region, keep_node, keep_op}
 use Rattle.func.specs.Rows.{marks_of, region_row, node_row, op_row, keep_region_is, keep_node_is, keep_op_is}
-use Rattle.read_lines.specs.Stores.{Stores, up_row, waits_row, waits_denied, waits_refused}
+use Rattle.read_lines.specs.Stores.{Stored, up_back, up_reached, waits_reached}
 use Rattle.read_lines.specs.Tails.{to_region, control, controlled, to_loop, to_exit, ended_by, inst_values, select_lists, to_select, to_select_inst, select_rest, op_of_tail, to_op_inst, op_rest}
 
 abbrev pub keep_func_line : ℕ × (ℕ × (ℕ × ℕ)) → List ℕ → List ℕ
@@ -85,28 +86,34 @@ pub select_inst : (w : List ℕ) (n : ℕ) (is : List Imm) (x : Value × (List �
 unfolding folds
 select_inst w n is x = ap (λ (is : List Imm). keep_select_lists x (folds keep_imm is w)) (append-nil is)
 
-module _ {text : List ℕ} {at : ℕ} {w u v : List ℕ} where
-  pub rest_row : (k : Selection) {mid c next : ℕ} → Stores (select_rest k) keep_node_lists text at (some (tt, mid)) w u → Took control.read text mid c next
-      → v ≡ node_row (marks_of w) (select_number k) (select_opcode k) c u → Stores (λ t. controlled (select_rest k t)) keep_node text at (some (tt, next)) w v
-  rest_row sel.Bool {c = c} s t e = waits_row select_lists.read (to_select bool_cond) control (node_row (marks_of w) 1 0) (λ x. keep_node_is (to_select bool_cond x c) w) s t e
-  rest_row (sel.Inst n) {c = c} s t e =
-      waits_row (seq imms_codec select_lists).read (to_select_inst n) control (node_row (marks_of w) 2 n) (λ x. keep_node_is (to_select_inst n x c) w) s t e
-
-  pub rest_denied : (k : Selection) {mid : ℕ} → Stores (select_rest k) keep_node_lists text at (some (tt, mid)) w u → Denied control.read text mid
-      → Stores (λ t. controlled (select_rest k t)) keep_node text at none w v
-  rest_denied sel.Bool s t = waits_denied select_lists.read (to_select bool_cond) control s t
-  rest_denied (sel.Inst n) s t = waits_denied (seq imms_codec select_lists).read (to_select_inst n) control s t
-
-  pub rest_refused : (k : Selection) → Stores (select_rest k) keep_node_lists text at none w u → Stores (λ t. controlled (select_rest k t)) keep_node text at none w v
-  rest_refused sel.Bool s = waits_refused select_lists.read (to_select bool_cond) control s
-  rest_refused (sel.Inst n) s = waits_refused (seq imms_codec select_lists).read (to_select_inst n) control s
+pub rest_row : (k : Selection) {c d e : Cursor} {n : ℕ} {w u v : List ℕ} → Stored (select_rest k) keep_node_lists c d w u → Reached control.read d n e
+    → v ≡ node_row (marks_of w) (select_number k) (select_opcode k) n u → Stored (λ t. controlled (select_rest k t)) keep_node c e w v
+rest_row sel.Bool {n = n} {w = w} s t q =
+    let x = up_back select_lists.read (to_select bool_cond) s.reached in
+    record {
+      value = to_select bool_cond x.0 n;
+      reached = waits_reached control (select_rest sel.Bool) (up_reached select_lists.read (to_select bool_cond) x.2) t;
+      kept = q ∙ ap (node_row (marks_of w) 1 0 n) (s.kept ∙ ap (λ (g : ℕ → Node). keep_node_lists g w) x.1) ∙ sym (keep_node_is (to_select bool_cond x.0 n) w);
+    }
+rest_row (sel.Inst m) {n = n} {w = w} s t q =
+    let x = up_back (seq imms_codec select_lists).read (to_select_inst m) s.reached in
+    record {
+      value = to_select_inst m x.0 n;
+      reached = waits_reached control (select_rest (sel.Inst m)) (up_reached (seq imms_codec select_lists).read (to_select_inst m) x.2) t;
+      kept = q ∙ ap (node_row (marks_of w) 2 m n) (s.kept ∙ ap (λ (g : ℕ → Node). keep_node_lists g w) x.1) ∙ sym (keep_node_is (to_select_inst m x.0 n) w);
+    }
 
 -- the row of an op goes by its head
 pub op_inst_law : (w : List ℕ) (a t n : ℕ) (x : List Imm × List Value) → keep_op_lists (to_op_inst a t n x) w ≡ keep_inst_values x w
 op_inst_law w a t n x = ap (λ (is : List Imm). folds keep_value x.1 (folds keep_imm is w)) (append-nil x.0)
 
-pub op_row_law : (a t : ℕ) (k : OpKind) {text : List ℕ} {at next : ℕ} {w u v : List ℕ} → Stores (op_rest a t k) keep_op_lists text at (some (tt, next)) w u
-    → v ≡ op_row (marks_of w) a t k u → Stores (op_rest a t k) keep_op text at (some (tt, next)) w v
-op_row_law a t (op.Inst n) {w = w} s e = up_row inst_values.read (to_op_inst a t n) (op_row (marks_of w) a t (op.Inst n)) (λ x. keep_op_is (to_op_inst a t n x) w) s e
-op_row_law a t (op.Call n) {w = w} s e = up_row (ended_by values_codec).read (op_of_tail a t (call n)) (op_row (marks_of w) a t (op.Call n)) (λ x. keep_op_is (op_of_tail a t (call n) x) w) s e
-op_row_law a t (op.Ext m n) {w = w} s e = up_row (ended_by values_codec).read (op_of_tail a t (ext m n)) (op_row (marks_of w) a t (op.Ext m n)) (λ x. keep_op_is (op_of_tail a t (ext m n) x) w) s e
+row : {A : Type 0} (a t : ℕ) (k : OpKind) (read : List ℕ → Reading A) (f : A → Ast.Op) (is : (x : A) (w : List ℕ) → keep_op (f x) w ≡ op_row (marks_of w) a t k (keep_op_lists (f x) w))
+    {c d : Cursor} {w u v : List ℕ} → Stored (λ r. then (read r) (up f)) keep_op_lists c d w u → v ≡ op_row (marks_of w) a t k u → Stored (λ r. then (read r) (up f)) keep_op c d w v
+row a t k read f is {w = w} s e =
+    let x = up_back read f s.reached in
+    record { value = f x.0; reached = up_reached read f x.2; kept = e ∙ ap (op_row (marks_of w) a t k) (s.kept ∙ ap (λ (o : Ast.Op). keep_op_lists o w) x.1) ∙ sym (is x.0 w) }
+
+pub op_row_law : (a t : ℕ) (k : OpKind) {c d : Cursor} {w u v : List ℕ} → Stored (op_rest a t k) keep_op_lists c d w u → v ≡ op_row (marks_of w) a t k u → Stored (op_rest a t k) keep_op c d w v
+op_row_law a t (op.Inst n) s e = row a t (op.Inst n) inst_values.read (to_op_inst a t n) (λ x w. keep_op_is (to_op_inst a t n x) w) s e
+op_row_law a t (op.Call n) s e = row a t (op.Call n) (ended_by values_codec).read (op_of_tail a t (call n)) (λ x w. keep_op_is (op_of_tail a t (call n) x) w) s e
+op_row_law a t (op.Ext m n) s e = row a t (op.Ext m n) (ended_by values_codec).read (op_of_tail a t (ext m n)) (λ x w. keep_op_is (op_of_tail a t (ext m n) x) w) s e

@@ -3,9 +3,9 @@
 --     kind_lines, rest_of, keep_kind      the lines of a kind, by the enum that the code goes by
 --     LineIs, lines-..               the answer of a line, and the loop over them
 use Rattle.std.specs.Prelude.{◌≡◌, refl, List, ◌++◌, ℕ, ◌-◌, ◌<◌, length, drop}
-use Rattle.std.proofs.Common.{subst, arith}
+use Rattle.std.proofs.Common.{ap, ◌∙◌, arith}
 use Rattle.std.proofs.Math.Path.{subst⁻¹}
-use Rattle.std.proofs.Math.Option.{Option, none}
+use Rattle.std.proofs.Math.Option.{none}
 use Rattle.lifting.specs.Bytes.{bytes}
 use Rattle.lifting.specs.Ast
 use Rattle.lifting.specs.Ast.{Const, Decl, Region, Node}
@@ -15,11 +15,14 @@ use Rattle.lifting.specs.Whole.{end}
 use Rattle.lifting.specs.Grammar.{Regions, Nodes, Ops, Ctrls, before, line, decl_codec, param_line, region_line, block_line, select_line, loop_line, exit_line, node_form, node_line, op_line, ctrl_line, ctrl_lines, op_lines, node_lines, region_lines, rest_form, rest_lines, param_lines, const_lines, const_apart, param_apart, region_apart, node_apart, op_apart}
 use Rattle.lifting.proofs.Grammar.{const_line_inverse, node_line_inverse, op_line_inverse, param_line_inverse, region_line_inverse}
 use Rattle.lifting.proofs.Codec.{lit_inverse}
-use Rattle.read_cursor.specs.Read.{Took, Denied, literal}
-use Rattle.read_cursor.specs.Answers.{step_of}
+use Rattle.read_cursor.specs.Read.{literal}
+use Rattle.read_cursor.specs.Answers.{Reached, Missed}
+use Rattle.read_cursor.specs.Chains.{took_next}
+use Rattle.read_lines.specs.declared.NoLine.{NoLine}
+use Rattle.read_lines.specs.declared.NoLine.TheVariants.{Other, Refused}
+use Rattle.std.specs.Prelude as code
+use Rattle.std.specs.Option.{ok_or}
 use Rattle.read_cursor.specs.declared.Cursor.{Cursor}
-use Rattle.read_cursor.specs.declared.Step.{Step}
-use Rattle.read_cursor.specs.declared.Step.TheVariants as step
 use Rattle.read_insts.specs.declared.Op.{Op}
 use Rattle.func.specs.Keep.{keep_const, keep_param, keep_region, keep_node, keep_op}
 use Rattle.read_insts.specs.Heads.{op_head_form, op_head, op_head_inverse}
@@ -27,10 +30,8 @@ use Rattle.read_lines.specs.declared.NodeWord.{NodeWord}
 use Rattle.read_lines.specs.declared.NodeWord.TheVariants.{Block, Select, Loop, Exit}
 use Rattle.read_lines.specs.declared.LineKind.{LineKind}
 use Rattle.read_lines.specs.declared.LineKind.TheVariants as kinds
-use Rattle.read_lines.specs.declared.LineRead.{LineRead}
-use Rattle.read_lines.specs.declared.LineRead.TheVariants as answer
-use Rattle.read_lines.specs.Stores.{Stores}
-use Rattle.read_lines.specs.Lines.{Going, Kind, LinesPassed, going_more, going_over, going_wrong, kind_of_law}
+use Rattle.read_lines.specs.Stores.{Stores, Stored}
+use Rattle.read_lines.specs.Lines.{GoingOn, Kind, PassedOn, on_more, on_over, on_wrong, kind_of_law}
 use Rattle.read_lines.specs.Tails.{const_tail, const_begins, param_tail, param_begins, region_tail, region_begins, op_tail, op_line_begins}
 use Rattle.read_lines.specs.Nodes.{word_form, node_head, node_tail, node_begins, node_head_inverse}
 
@@ -138,41 +139,54 @@ kind_is kinds.Node = node_kind_law
 kind_is kinds.Op = op_kind_law
 
 -- a line of the kind was read, or one was begun and is wrong; or the next line is of another kind, and nothing was stored
-pub record Begun (k : LineKind) (text : List ℕ) (at : ℕ) (found : Option (Unit {0} × ℕ)) (w v : List ℕ) : Type 0 where
+pub record Begun (k : LineKind) (from d : Cursor) (w v : List ℕ) : Type 0 where
   pub head : HeadOf k
-  pub mid : ℕ
-  pub took : Took (head_of k) text at head mid
-  pub line : Stores (tail_of k head) (keep_kind k) text mid found w v
+  pub mid : Cursor
+  pub took : Reached (head_of k) from head mid
+  pub line : Stored (tail_of k head) (keep_kind k) mid d w v
 
-abbrev pub Answered : LineKind → List ℕ → ℕ → LineRead → List ℕ → List ℕ → Type 0
-Answered k text at (answer.Line s) w v = Begun k text at (step_of s) w v
-Answered k text at answer.Other w v = Denied (head_of k) text at × (v ≡ w)
+pub record Wrong (k : LineKind) (from : Cursor) : Type 0 where
+  pub head : HeadOf k
+  pub mid : Cursor
+  pub took : Reached (head_of k) from head mid
+  pub line : Missed (tail_of k head) mid
 
-pub record LineIs (k : LineKind) (text : List ℕ) (at : ℕ) (r : LineRead) (w v : List ℕ) : Type 0 where
-  pub is : Answered k text at r w v
+pub record Another (k : LineKind) (from : Cursor) (w v : List ℕ) : Type 0 where
+  pub head : Missed (head_of k) from
+  pub words : v ≡ w
 
-pub line_told : {k : LineKind} {text : List ℕ} {at : ℕ} {r s : LineRead} {w v : List ℕ} → r ≡ s → LineIs k text at r w v → LineIs k text at s w v
-line_told {k} {text} {at} {w = w} {v} e p = subst (λ (r : LineRead). LineIs k text at r w v) e p
+abbrev pub LineIs : LineKind → Cursor → code.Result Cursor NoLine → List ℕ → List ℕ → Type 0
+LineIs k from (code.Ok d) w v = Begun k from d w v
+LineIs k from (code.Err Refused) w v = Wrong k from
+LineIs k from (code.Err Other) w v = Another k from w v
 
 -- of the kind that this is known to be
-module _ {k : LineKind} (j : LineKind) (e : k ≡ j) {text : List ℕ} {at : ℕ} {w v : List ℕ} where
-  pub this_line : {x : HeadOf j} {mid : ℕ} {s : Step} → Took (head_of j) text at x mid → Stores (tail_of j x) (keep_kind j) text mid (step_of s) w v → LineIs k text at (answer.Line s) w v
-  this_line {x} {mid} {s} p q = subst⁻¹ (λ (z : LineKind). LineIs z text at (answer.Line s) w v) e (record { is = record { head = x; mid = mid; took = p; line = q } })
+module _ {k : LineKind} (j : LineKind) (e : k ≡ j) {from : Cursor} where
+  pub other_line : {w v : List ℕ} → Missed (head_of j) from → v ≡ w → Another k from w v
+  other_line {w} {v} p q = subst⁻¹ (λ (z : LineKind). Another z from w v) e (record { head = p; words = q })
 
-  pub other_line : Denied (head_of j) text at → v ≡ w → LineIs k text at answer.Other w v
-  other_line p q = subst⁻¹ (λ (z : LineKind). LineIs z text at answer.Other w v) e (record { is = (p, q) })
+  pub this_line : {x : HeadOf j} {mid : Cursor} (found : code.Option Cursor) {r : code.Result Cursor NoLine} (w v : List ℕ) → Reached (head_of j) from x mid
+      → Stores (tail_of j x) (keep_kind j) mid found w v → r ≡ ok_or found Refused → LineIs k from r w v
+  this_line {x} {mid} found {r} w v p q i = subst⁻¹ (λ (z : code.Result Cursor NoLine). LineIs k from z w v) i (subst⁻¹ (λ (z : LineKind). LineIs z from (ok_or found Refused) w v) e (go found q))
+    where
+      go : (found : code.Option Cursor) → Stores (tail_of j x) (keep_kind j) mid found w v → LineIs j from (ok_or found Refused) w v
+      go code.None q = record { head = x; mid = mid; took = p; line = q }
+      go (code.Some d) q = record { head = x; mid = mid; took = p; line = q }
 
 -- the head of the loop over lines of a kind
-module _ (k : LineKind) {text : List ℕ} {from at : ℕ} {w v u : List ℕ} (a : Going length (kind_lines k) (keep_kind k) text from w at v) where
-  pub lines_over : LineIs k text at answer.Other v u → LinesPassed (kind_lines k) (rest_of k) (keep_kind k) text from w at u
-  lines_over p = subst⁻¹ (λ (z : List ℕ). LinesPassed (kind_lines k) (rest_of k) (keep_kind k) text from w at z) p.is.1 (going_over (kind_is k) a p.is.0)
+module _ (k : LineKind) {from c : Cursor} {w v : List ℕ} (a : GoingOn length (kind_lines k) (keep_kind k) from w c v) where
+  pub lines_over : {u : List ℕ} → Another k c v u → PassedOn (kind_lines k) (rest_of k) (keep_kind k) from w c u
+  lines_over p = subst⁻¹ (λ (z : List ℕ). PassedOn (kind_lines k) (rest_of k) (keep_kind k) from w c z) p.words (on_over (kind_is k) a p.head)
 
-  pub lines_wrong : LineIs k text at (answer.Line step.Refused) v u → (kind_lines k).read (drop from text) ≡ none
-  lines_wrong p = going_wrong (kind_is k) a p.is.took p.is.line
+  pub lines_wrong : Wrong k c → (kind_lines k).read (drop from.at from.text.now) ≡ none
+  lines_wrong p = on_wrong (kind_is k) a p.took p.line
 
-  pub kind_lines_more : {c : Cursor} → LineIs k text at (answer.Line (step.On c)) v u → length u ≡ length v → Going length (kind_lines k) (keep_kind k) text from w c.at u
-  kind_lines_more p l = going_more (kind_is k) a p.is.took p.is.line l
+  pub kind_lines_more : {d : Cursor} {u : List ℕ} → Begun k c d v u → length u ≡ length v → GoingOn length (kind_lines k) (keep_kind k) from w d u
+  kind_lines_more p l = on_more (kind_is k) a p.took p.line l
 
 -- less of the text is left behind a line
-pub less_line : {k : LineKind} {text : List ℕ} {at : ℕ} {c : Cursor} {w v : List ℕ} → LineIs k text at (answer.Line (step.On c)) w v → length text - c.at < length text - at
-less_line p = let l = p.is.line in omega (arith, p.is.took.moves.moved, l.moves.moved, l.moves.fits)
+pub less_line : {k : LineKind} {c d : Cursor} {w v : List ℕ} → Begun k c d w v → length d.text.now - d.at < length c.text.now - c.at
+less_line {k} {c} {d} p =
+    let m = took_next c p.took.same_text p.line.reached in
+    let t : length d.text.now ≡ length c.text.now = ap (λ z. length z.now) (p.line.reached.same_text ∙ p.took.same_text) in
+    omega (arith, p.took.took.moves.moved, m.moves.moved, m.moves.fits)

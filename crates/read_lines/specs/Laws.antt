@@ -1,77 +1,68 @@
 -- What the proofs of the functions over these definitions cite, over plain variables. Assumes nothing.
 --     less                          less of the text is left
---     behind-.., as_sub             a list with the word before it
---     last-.., ended-..             and with what ends its line
-use Rattle.std.specs.Prelude.{◌≡◌, List, ◌++◌, ℕ, ◌-◌, ◌<◌, length, drop}
+--     last-.., ended-..             with what ends a line
+use Rattle.std.specs.Prelude.{List, ◌++◌, ℕ, ◌-◌, ◌<◌, length}
+use Rattle.std.specs.Prelude as code
 use Rattle.std.proofs.Math.Path.{refl}
-use Rattle.std.proofs.Common.{ap, ◌∙◌, arith}
-use Rattle.std.proofs.Math.Option.{Option, none, some}
-use Prim.Native.String.{String}
+use Rattle.std.proofs.Common.{arith}
 use Rattle.lifting.specs.Bytes.{bytes}
-use Rattle.lifting.specs.Digits.{Reading}
-use Rattle.lifting.specs.Codec.{Codec, then_then, lit, seq, view_as, same}
-use Rattle.lifting.specs.Grammar.{before, after_word, sub}
-use Rattle.read_cursor.specs.Read.{Onward, Reads, Took, Denied, literal, behind_literal}
-use Rattle.read_cursor.specs.Begins.{then_nothing}
-use Rattle.read_cursor.specs.Laws.{onward_both, strip_is, strip_not}
-use Rattle.read_lines.specs.Stores.{Stores, stored_by, further, stores_refused, stores_one, stores_none, after_stored, after_refused}
+use Prim.Native.String.{String}
+use Rattle.lifting.specs.Codec.{Codec}
+use Rattle.lifting.specs.Grammar.{sub}
+use Rattle.read_cursor.specs.Read.{Onward, literal, behind_literal}
+use Rattle.read_cursor.specs.Answers.{Reached, Missed, StepsOn}
+use Rattle.read_cursor.specs.Chains.{after_missed, after_open, after_reached, seq_misses, seq_open, sub_misses_behind, sub_behind}
+use Rattle.read_cursor.specs.declared.Cursor.{Cursor}
+use Rattle.read_lines.specs.Stores.{Stores, Stored, stored_one, stored_behind, stored_before, stored_after, stored_closed, stored_sub, up_missed}
 use Rattle.read_lines.specs.Tails.{last_form, ended_by}
 
 pub less : {text : List ℕ} {at next : ℕ} → Onward text at next → length text - next < length text - at
 less m = omega (arith, m.moved, m.fits)
 
--- behind a word
-module _ {A S : Type 0} (s : List ℕ) (read : List ℕ → Reading A) {f : A → S → S} {text : List ℕ} {at : ℕ} {w v : S} where
-  pub behind_took : {mid : ℕ} {found : Option (Unit {0} × ℕ)} → Took (literal s) text at tt mid → Stores read f text mid found w v → Stores (behind_literal s read) f text at found w v
-  behind_took {found = found} p q = record { is = rw (strip_is s p) q.is; moves = further text p.moves.moved found q.moves }
-
-  pub behind_denied : Denied (literal s) text at → Stores (behind_literal s read) f text at none w v
-  behind_denied p = record { is = rw (strip_not s p); moves = tt }
-
--- ` (s ..`
-pub as_sub : {A S : Type 0} (s : String) (C : Codec A) {f : A → S → S} {text : List ℕ} {at : ℕ} {found : Option (Unit {0} × ℕ)} {w v : S}
-    → Stores (behind_literal (bytes " (" ++ bytes s) C.read) f text at found w v → Stores (sub s C).read f text at found w v
-unfolding sub before lit seq same view_as
-as_sub s C {f} {text} {at} {w = w} q =
-    let e : (sub s C).read (drop at text) ≡ behind_literal (bytes " (" ++ bytes s) C.read (drop at text) = simp (then_then, then_nothing) in
-    record { is = ap (stored_by f w) e ∙ q.is; moves = q.moves }
-
--- what ends a line is only read
-module _ {A : Type 0} (C : Codec A) {text : List ℕ} {at : ℕ} where
-  pub last_misses : Denied C.read text at → Denied (last_form C).read text at
-  unfolding last_form after_word lit seq same view_as
-  last_misses p = record { is = rw p.is; moves = tt }
-
-  pub last_open : {a : A} {mid : ℕ} → Took C.read text at a mid → Denied (literal (bytes ")\n")) text mid → Denied (last_form C).read text at
-  unfolding last_form after_word lit seq same view_as
-  last_open p q = record { is = rw (p.is, q.is); moves = tt }
-
-  pub last_reads : {a : A} {mid next : ℕ} → Took C.read text at a mid → Took (literal (bytes ")\n")) text mid tt next → Took (last_form C).read text at a next
-  unfolding last_form after_word lit seq same view_as
-  last_reads p q = record { is = rw (p.is, q.is); moves = onward_both p.moves q.moves }
-
 -- what ends a line
-module _ {A S : Type 0} (C : Codec A) {f : A → S → S} {text : List ℕ} {at : ℕ} {w v : S} where
-  pub last_refused : Stores C.read f text at none w v → Stores (last_form C).read f text at none w v
+module _ {A : Type 0} (C : Codec A) {c : Cursor} where
+  pub last_missed : Missed C.read c → Missed (last_form C).read c
   unfolding last_form
-  last_refused p = after_refused C (bytes ")\n") refl p
+  last_missed p = after_missed C (bytes ")\n") refl p
 
-  pub ended_refused : Stores C.read f text at none w v → Stores (ended_by C).read f text at none w v
+  pub ended_missed : Missed C.read c → Missed (ended_by C).read c
   unfolding ended_by
-  ended_refused p = after_refused C (bytes "\n") refl p
+  ended_missed p = after_missed C (bytes "\n") refl p
 
-  pub last_stored : {mid : ℕ} {found : Option (Unit {0} × ℕ)} → Stores C.read f text at (some (tt, mid)) w v → Reads (literal (bytes ")\n")) text mid found
-      → Stores (last_form C).read f text at found w v
+  module _ {d : Cursor} {a : A} (p : Reached C.read c a d) where
+    pub last_open : Missed (literal (bytes ")\n")) d → Missed (last_form C).read c
+    unfolding last_form
+    last_open q = after_open C (bytes ")\n") refl p q
+
+    pub ended_open : Missed (literal (bytes "\n")) d → Missed (ended_by C).read c
+    unfolding ended_by
+    ended_open q = after_open C (bytes "\n") refl p q
+
+    pub last_reached : {e : Cursor} → Reached (literal (bytes ")\n")) d tt e → Reached (last_form C).read c a e
+    unfolding last_form
+    last_reached q = after_reached C (bytes ")\n") refl p q
+
+    pub ended_reached : {e : Cursor} → Reached (literal (bytes "\n")) d tt e → Reached (ended_by C).read c a e
+    unfolding ended_by
+    ended_reached q = after_reached C (bytes "\n") refl p q
+
+module _ {A S : Type 0} (C : Codec A) {f : A → S → S} {c d e : Cursor} {w v : S} (p : Stored C.read f c d w v) where
+  pub stored_last : Reached (literal (bytes ")\n")) d tt e → Stored (last_form C).read f c e w v
   unfolding last_form
-  last_stored p q = after_stored C (bytes ")\n") refl p q
+  stored_last q = stored_after C (bytes ")\n") refl p q
 
-  pub ended_stored : {mid : ℕ} {found : Option (Unit {0} × ℕ)} → Stores C.read f text at (some (tt, mid)) w v → Reads (literal (bytes "\n")) text mid found
-      → Stores (ended_by C).read f text at found w v
+  pub stored_ended : Reached (literal (bytes "\n")) d tt e → Stored (ended_by C).read f c e w v
   unfolding ended_by
-  ended_stored p q = after_stored C (bytes "\n") refl p q
+  stored_ended q = stored_after C (bytes "\n") refl p q
 
-  -- it is read and not stored, since the line does not end there
-  pub ended_denied : {a : A} {mid : ℕ} → Took C.read text at a mid → Denied (literal (bytes "\n")) text mid → Stores (ended_by C).read f text at none w v
-  unfolding ended_by
-  ended_denied p q =
-      stores_none (record { is = stores_refused (after_stored {S = Unit {0}} C (bytes "\n") refl {f = λ a z. z} {w = tt} (stores_one p refl) q); moves = tt })
+pub stores_sub : {A S : Type 0} (s : String) (C : Codec A) (f : A → S → S) (c : Cursor) (found : code.Option Cursor) (w v : S) → Stores (behind_literal (bytes " (" ++ bytes s) C.read) f c found w v → Stores (sub s C).read f c found w v
+stores_sub s C f c code.None w v p = sub_misses_behind s C p
+stores_sub s C f c (code.Some d) w v p = stored_sub s C p
+
+pub stores_last : {A S : Type 0} (C : Codec A) {f : A → S → S} {c d : Cursor} (found : code.Option Cursor) {w v : S} → Stored C.read f c d w v → StepsOn (literal (bytes ")\n")) d found → Stores (last_form C).read f c found w v
+stores_last C code.None p q = last_open C p.reached q
+stores_last C (code.Some e) p q = stored_last C p q
+
+pub ruleset ends = (last_missed, last_open, last_reached, ended_missed, ended_open, ended_reached)
+
+pub ruleset storing = (stored_one, stored_behind, stored_before, stored_after, stored_closed, stored_sub, stored_last, stored_ended, last_missed, last_open, ended_missed, ended_open, seq_misses, seq_open, sub_misses_behind, sub_behind, up_missed)

@@ -7,17 +7,19 @@
 --     Going, going-..          the head of the loop
 use Rattle.std.specs.Prelude.{◌≡◌, List, [], ◌++◌, ℕ, ◌≤◌, length, drop}
 use Rattle.std.proofs.Math.Path.{refl, ap}
-use Rattle.std.proofs.Common.{◌∙◌, arith}
+use Rattle.std.proofs.Common.{sym, ◌∙◌, arith}
 use Rattle.std.proofs.Math.Option.{Option, none, some, some-injective}
 use Rattle.lifting.specs.Digits.{Reading}
 use Rattle.lifting.specs.Codec.{Codec, Whole, then, onto, over, many, many_over}
 use Rattle.lifting.proofs.Codec.{Inverse, many_more}
 use Rattle.read_cursor.specs.Read.{Took, Denied}
 use Rattle.read_cursor.specs.Begins.{Begins, go_on}
-use Rattle.read_cursor.specs.declared.Step.{Step}
-use Rattle.read_cursor.specs.declared.Step.TheVariants as step
+use Rattle.std.specs.Prelude as code
 use Rattle.func.specs.Store.{folds}
-use Rattle.read_lines.specs.Stores.{Stores, stores_refused, stores_taken}
+use Rattle.read_lines.specs.Stores.{Stored}
+use Rattle.read_cursor.specs.Answers.{Reached, Missed}
+use Rattle.read_cursor.specs.Chains.{took_next, denied_next}
+use Rattle.read_cursor.specs.declared.Cursor.{Cursor}
 
 -- what was read to the end of the text: the lines stored by k, and the rest as it is
 abbrev pub lines_in : {A B S : Type 0} → (A → S → S) → S → Option ((List A × B) × Unit {0}) → Option (B × S)
@@ -61,11 +63,6 @@ pub record LinesPassed {A B S : Type 0} (W : Whole (List A × B)) (D : Whole B) 
   pub ahead : from ≤ at
   pub fits : at ≤ length text
 
--- what the loop answers
-abbrev pub Lined : {A B S : Type 0} → Whole (List A × B) → Whole B → (A → S → S) → List ℕ → ℕ → Step → S → S → Type 0
-Lined W D k text from (step.On c) w v = LinesPassed W D k text from w c.at v
-Lined W D k text from step.Refused w v = W.read (drop from text) ≡ none
-
 pub going_first : {A B S : Type 0} {size : S → ℕ} {W : Whole (List A × B)} {k : A → S → S} {text : List ℕ} {from : ℕ} {w : S} → from ≤ length text → Going size W k text from w from w
 going_first h = record { is = refl; ahead = omega arith; fits = h; len = refl }
 
@@ -93,21 +90,18 @@ module _ {A B S : Type 0} {W : Whole (List A × B)} {D : Whole B} {k : A → S �
 module _ {A B X S : Type 0} {W : Whole (List A × B)} {D : Whole B} {head : List ℕ → Reading X} {tail : X → List ℕ → Reading A} (K : Kind W D head tail) {size : S → ℕ} {k : A → S → S}
     {text : List ℕ} {from at : ℕ} {w v : S} (a : Going size W k text from w at v) where
   -- one more
-  pub going_more : {x : X} {mid next : ℕ} {u : S} → Took head text at x mid → Stores (tail x) k text mid (some (tt, next)) v u → size u ≡ size v → Going size W k text from w next u
+  pub going_more : {x : X} {y : A} {mid next : ℕ} {u : S} → Took head text at x mid → Took (tail x) text mid y next → u ≡ k y v → size u ≡ size v → Going size W k text from w next u
   unfolding folds
-  going_more {x} {mid} {next} {u} p s l = record {
-    is = let t = stores_taken s in
-        a.is
-        ∙ ap (lines_in k v) (K.more (drop at text) x (drop mid text) t.0 (drop next text) p.is t.1)
-        ∙ by_found t.0 t.2 (W.read (drop next text));
-    ahead = omega (arith, a.ahead, p.moves.moved, s.moves.moved);
-    fits = s.moves.fits;
+  going_more {x} {y} {mid} {next} {u} p q e l = record {
+    is = a.is ∙ ap (lines_in k v) (K.more (drop at text) x (drop mid text) y (drop next text) p.is q.is) ∙ by_found (W.read (drop next text));
+    ahead = omega (arith, a.ahead, p.moves.moved, q.moves.moved);
+    fits = q.moves.fits;
     len = l ∙ a.len;
   }
     where
-      by_found : (y : A) → k y v ≡ u → (o : Option ((List A × B) × Unit {0})) → lines_in k v (then o (onto y)) ≡ lines_in k u o
-      by_found y e none = refl
-      by_found y e (some z) = ap (λ (m : S). some (z.0.1, folds k z.0.0 m)) e
+      by_found : (o : Option ((List A × B) × Unit {0})) → lines_in k v (then o (onto y)) ≡ lines_in k u o
+      by_found none = refl
+      by_found (some z) = ap (λ (m : S). some (z.0.1, folds k z.0.0 m)) (sym e)
 
   -- the next line is of another kind
   pub going_over : Denied head text at → LinesPassed W D k text from w at v
@@ -123,6 +117,40 @@ module _ {A B X S : Type 0} {W : Whole (List A × B)} {D : Whole B} {head : List
       by_found (some z) = refl
 
   -- the next line is of this kind by its head, and is wrong
-  pub going_wrong : {x : X} {mid : ℕ} {u : S} → Took head text at x mid → Stores (tail x) k text mid none v u → W.read (drop from text) ≡ none
-  going_wrong {x} {mid} p s =
-      lines_none k w (W.read (drop from text)) (a.is ∙ ap (lines_in k v) (K.wrong (drop at text) x (drop mid text) p.is (stores_refused s)))
+  pub going_wrong : {x : X} {mid : ℕ} → Took head text at x mid → Denied (tail x) text mid → W.read (drop from text) ≡ none
+  going_wrong {x} {mid} p q =
+      lines_none k w (W.read (drop from text)) (a.is ∙ ap (lines_in k v) (K.wrong (drop at text) x (drop mid text) p.is q.is))
+
+-- the same of cursors of one text
+pub record GoingOn {A B S : Type 0} (size : S → ℕ) (W : Whole (List A × B)) (k : A → S → S) (from : Cursor) (w : S) (c : Cursor) (v : S) : Type 0 where
+  pub going : Going size W k from.text.now from.at w c.at v
+  pub same_text : c.text ≡ from.text
+
+pub record PassedOn {A B S : Type 0} (W : Whole (List A × B)) (D : Whole B) (k : A → S → S) (from : Cursor) (w : S) (c : Cursor) (v : S) : Type 0 where
+  pub passed : LinesPassed W D k from.text.now from.at w c.at v
+  pub same_text : c.text ≡ from.text
+
+-- what the loop answers
+abbrev pub Lined : {A B S : Type 0} → Whole (List A × B) → Whole B → (A → S → S) → Cursor → code.Option Cursor → S → S → Type 0
+Lined W D k from (code.Some c) w v = PassedOn W D k from w c v
+Lined W D k from code.None w v = W.read (drop from.at from.text.now) ≡ none
+
+pub on_first : {A B S : Type 0} {size : S → ℕ} {W : Whole (List A × B)} {k : A → S → S} (from : Cursor) {w : S} → from.at ≤ length from.text.now → GoingOn size W k from w from w
+on_first from h = record { going = going_first h; same_text = refl }
+
+module _ {A B X S : Type 0} {W : Whole (List A × B)} {D : Whole B} {head : List ℕ → Reading X} {tail : X → List ℕ → Reading A} (K : Kind W D head tail) {size : S → ℕ} {k : A → S → S}
+    {from c : Cursor} {w v : S} (a : GoingOn size W k from w c v) where
+  pub on_over : Missed head c → PassedOn W D k from w c v
+  on_over p = record { passed = going_over K a.going (denied_next from a.same_text p); same_text = a.same_text }
+
+  module _ {x : X} {d : Cursor} (p : Reached head c x d) where
+    pub on_more : {e : Cursor} {u : S} → Stored (tail x) k d e v u → size u ≡ size v → GoingOn size W k from w e u
+    on_more s l =
+        let t : d.text ≡ from.text = p.same_text ∙ a.same_text in
+        record {
+          going = going_more K a.going (took_next from a.same_text p) (took_next from t s.reached) s.kept l;
+          same_text = s.reached.same_text ∙ t;
+        }
+
+    pub on_wrong : Missed (tail x) d → W.read (drop from.at from.text.now) ≡ none
+    on_wrong q = going_wrong K a.going (took_next from a.same_text p) (denied_next from (p.same_text ∙ a.same_text) q)

@@ -3,7 +3,7 @@
 --     node_begins            the grammar's line is the one and then the other
 use Rattle.std.specs.Prelude.{◌≡◌, refl, List, ◌++◌, ◌⊎◌, ℕ}
 use Rattle.std.proofs.Common.{ap, ◌∙◌, inl, inr}
-use Rattle.std.proofs.Math.Option.{Option, none, some}
+use Rattle.std.proofs.Math.Option.{none, some}
 use Rattle.lifting.specs.Bytes.{bytes}
 use Rattle.lifting.specs.Digits.{Reading}
 use Rattle.lifting.specs.Codec.{Codec, then, then_then, both_of, second, up, strip, lit, seq, view_as, same, alt}
@@ -16,13 +16,7 @@ use Rattle.read_insts.specs.declared.Selection.{Selection}
 use Rattle.read_insts.specs.declared.Selection.TheVariants as sel
 use Rattle.read_lines.specs.declared.NodeWord.{NodeWord}
 use Rattle.read_lines.specs.declared.NodeWord.TheVariants.{Block, Select, Loop, Exit}
-use Rattle.read_lines.specs.declared.NodeWordRead.{NodeWordRead}
-use Rattle.read_lines.specs.declared.NodeWordRead.TheVariants.{Word, Other}
 use Rattle.read_lines.specs.Tails.{ended_by, begins_line, begins_alike, last_alike, last_seq, ended_seq, second_alike, block_tail, control, controlled, loop_lists, to_loop, loop_tail, inst_values, exit_tail, to_exit, select_forms, select_lists, to_select, select_rest, select_tail}
-
-abbrev pub node_word_of : NodeWordRead → Option (NodeWord × ℕ)
-node_word_of (Word w c) = some (w, c.at)
-node_word_of Other = none
 
 abbrev pub Words : Type 0
 Words = ((Unit {0} ⊎ Unit {0}) ⊎ Unit {0}) ⊎ Unit {0}

@@ -1,14 +1,16 @@
 -- What each function of a node or an op cites: what stands before the row, and the row from the marks that were taken where the line began.
 -- Assumes nothing.
 use Rattle.std.specs.Prelude.{◌≡◌, List, ℕ}
+use Rattle.std.specs.Prelude as code
 use Rattle.std.proofs.Math.Path.{ap, subst⁻¹}
-use Rattle.std.proofs.Common.{◌∙◌}
-use Rattle.std.proofs.Math.Option.{Option, none, some}
-use Rattle.lifting.specs.Codec.{seq}
-use Rattle.lifting.specs.Ast.{Node, block, call, ext, bool_cond}
+use Rattle.std.proofs.Common.{sym, ◌∙◌, refl}
+use Rattle.lifting.specs.Digits.{Reading}
+use Rattle.lifting.specs.Codec.{then, up, seq}
+use Rattle.lifting.specs.Ast.{Value, Imm, Decl, block, call, ext, bool_cond}
 use Rattle.lifting.specs.Grammar.{field, numbers_codec, imms_codec, values_codec}
-use Rattle.lifting.specs.Parts.{node_values}
-use Rattle.read_cursor.specs.Read.{Took, Denied}
+use Rattle.read_cursor.specs.Answers.{Reached, Missed}
+use Rattle.read_cursor.specs.Chains.{seq_misses, seq_open, seq_reads}
+use Rattle.read_cursor.specs.declared.Cursor.{Cursor}
 use Rattle.read_insts.specs.Heads.{inst_head, selection_head}
 use Rattle.func.specs.declared.OpKind.{OpKind}
 use Rattle.func.specs.declared.OpKind.TheVariants as op
@@ -18,93 +20,114 @@ use Rattle.func.specs.declared.Marks.{Marks}
 use Rattle.func.specs.Store.{folds}
 use Rattle.func.specs.Keep.{keep_op_ref, keep_imm, keep_value, keep_child, keep_region, keep_node, keep_op}
 use Rattle.func.specs.Rows.{marks_of, region_row, node_row, op_row}
-use Rattle.read_lines.specs.Stores.{Stores, stores_row, waits_row, waits_denied, waits_refused, as_up, as_told, as_kept, head_took, first_took, first_stored, first_refused}
+use Rattle.read_lines.specs.Stores.{Stores, Stored, up_missed, up_reached, head_open, head_reached, waits_missed, waits_open, waits_reached, stored_both}
 use Rattle.read_lines.specs.Tails.{ended_by, region_lists, region_tail, to_region, block_tail, control, controlled, loop_lists, loop_rest, loop_tail, to_loop, inst_values, exit_tail, to_exit, select_lists, select_rest, select_tail, to_select, to_select_inst, op_rest, op_of_tail, to_op_inst}
-use Rattle.read_lines.specs.Keepers.{keep_region_lists, keep_loop_lists, keep_inst_values, keep_select_lists, keep_node_lists, keep_op_lists, region_row_law, block_row, loop_row, exit_row, select_number, select_opcode, select_bool, select_inst, rest_refused, rest_denied, rest_row, op_inst_law, op_row_law}
+use Rattle.read_lines.specs.Keepers.{keep_region_lists, keep_loop_lists, keep_inst_values, keep_select_lists, keep_node_lists, keep_op_lists, region_row_law, block_row, loop_row, exit_row, select_number, select_opcode, select_bool, select_inst, rest_row, op_inst_law, op_row_law}
 
--- a loop's lists, as those of a loop that waits for its control number
-abbrev keep_loop : (ℕ → Node) → List ℕ → List ℕ
-keep_loop g w = folds keep_value (node_values (g 0)) w
+-- a reader that goes by what is known to be this
+pub as_told : {A X S : Type 0} (tail : X → List ℕ → Reading A) (f : A → S → S) (c : Cursor) (found : code.Option Cursor) (w v : S) {x y : X} → x ≡ y
+    → Stores (tail y) f c found w v → Stores (tail x) f c found w v
+as_told {X = X} tail f c found w v e s = subst⁻¹ (λ (z : X). Stores (tail z) f c found w v) e s
 
-pub loop_lists_law : (r : ℕ) {text : List ℕ} {at : ℕ} {found : Option (Unit {0} × ℕ)} {w u : List ℕ} → Stores loop_lists.read keep_loop_lists text at found w u
-    → Stores (loop_rest r) keep_loop text at found w u
-unfolding folds
-loop_lists_law r s = as_up loop_lists.read (to_loop r) s
+module _ {c d : Cursor} {r : ℕ} (t : Reached field.read c r d) where
+  pub loop_missed : Missed loop_lists.read d → Missed loop_tail c
+  loop_missed s = head_open field.read (λ r t. controlled (loop_rest r t)) t (waits_missed control (loop_rest r) (up_missed loop_lists.read (to_loop r) s))
 
-module _ {text : List ℕ} {at mid r : ℕ} {w u v : List ℕ} (t : Took field.read text at r mid) where
-  pub loop_refused : Stores loop_lists.read keep_loop_lists text mid none w u → Stores loop_tail keep_node text at none w v
-  loop_refused s = head_took field.read (λ r t. controlled (loop_rest r t)) t (waits_refused loop_lists.read (to_loop r) control (loop_lists_law r s))
+  pub loop_open : {e : Cursor} {w u : List ℕ} → Stored loop_lists.read keep_loop_lists d e w u → Missed control.read e → Missed loop_tail c
+  loop_open s q = head_open field.read (λ r t. controlled (loop_rest r t)) t (waits_open control (loop_rest r) (up_reached loop_lists.read (to_loop r) s.reached) q)
 
-  pub loop_denied : {far : ℕ} → Stores loop_lists.read keep_loop_lists text mid (some (tt, far)) w u → Denied control.read text far → Stores loop_tail keep_node text at none w v
-  loop_denied s d = head_took field.read (λ r t. controlled (loop_rest r t)) t (waits_denied loop_lists.read (to_loop r) control (loop_lists_law r s) d)
+module _ {c d : Cursor} {k : Selection} (t : Reached selection_head.read c k d) where
+  pub select_missed : Missed (select_rest k) d → Missed select_tail c
+  select_missed s = head_open selection_head.read (λ k t. controlled (select_rest k t)) t (waits_missed control (select_rest k) s)
 
-module _ {text : List ℕ} {at mid : ℕ} {k : Selection} {w u v : List ℕ} (t : Took selection_head.read text at k mid) where
-  pub select_refused : Stores (select_rest k) keep_node_lists text mid none w u → Stores select_tail keep_node text at none w v
-  select_refused s = head_took selection_head.read (λ k t. controlled (select_rest k t)) t (rest_refused k s)
+  pub select_open : {e : Cursor} {w u : List ℕ} → Stored (select_rest k) keep_node_lists d e w u → Missed control.read e → Missed select_tail c
+  select_open s q = head_open selection_head.read (λ k t. controlled (select_rest k t)) t (waits_open control (select_rest k) s.reached q)
 
-  pub select_denied : {far : ℕ} → Stores (select_rest k) keep_node_lists text mid (some (tt, far)) w u → Denied control.read text far → Stores select_tail keep_node text at none w v
-  select_denied s d = head_took selection_head.read (λ k t. controlled (select_rest k t)) t (rest_denied k s d)
+module _ {c d : Cursor} {w u v : List ℕ} {m : Marks} (e : m ≡ marks_of w) where
+  pub region_stored : Stored region_lists.read keep_region_lists c d w u → v ≡ region_row m u → Stored region_tail keep_region c d w v
+  region_stored s q = record {
+    value = to_region s.value;
+    reached = up_reached region_lists.read to_region s.reached;
+    kept = q ∙ ap (λ (m : Marks). region_row m u) e ∙ ap (region_row (marks_of w)) s.kept ∙ sym (region_row_law w s.value);
+  }
 
-module _ {text : List ℕ} {at next : ℕ} {w u v : List ℕ} {m : Marks} (e : m ≡ marks_of w) where
-  pub region_stored : Stores region_lists.read keep_region_lists text at (some (tt, next)) w u → v ≡ region_row m u → Stores region_tail keep_region text at (some (tt, next)) w v
-  region_stored s q = as_up region_lists.read to_region (stores_row (region_row (marks_of w)) (region_row_law w) s (q ∙ ap (λ (m : Marks). region_row m u) e))
+  pub block_stored : Stored (ended_by numbers_codec).read (folds keep_op_ref) c d w u → v ≡ node_row m 0 0 0 u → Stored block_tail keep_node c d w v
+  block_stored s q = record {
+    value = block s.value;
+    reached = up_reached (ended_by numbers_codec).read block s.reached;
+    kept = q ∙ ap (λ (m : Marks). node_row m 0 0 0 u) e ∙ ap (node_row (marks_of w) 0 0 0) s.kept ∙ sym (block_row w s.value);
+  }
 
-  pub block_stored : Stores (ended_by numbers_codec).read (folds keep_op_ref) text at (some (tt, next)) w u → v ≡ node_row m 0 0 0 u → Stores block_tail keep_node text at (some (tt, next)) w v
-  block_stored s q = as_up (ended_by numbers_codec).read block (stores_row (node_row (marks_of w) 0 0 0) (block_row w) s (q ∙ ap (λ (m : Marks). node_row m 0 0 0 u) e))
+  -- the body is kept behind the values
+  pub loop_stored : {b f : Cursor} {r n : ℕ} {z : List ℕ} → Reached field.read b r c → Stored loop_lists.read keep_loop_lists c d w u
+      → Reached control.read d n f → z ≡ keep_child r u → v ≡ node_row m 3 0 n z → Stored loop_tail keep_node b f w v
+  loop_stored {r = r} {n} {z} t s p k q = record {
+    value = to_loop r s.value n;
+    reached = head_reached field.read (λ r t. controlled (loop_rest r t)) t (waits_reached control (loop_rest r) (up_reached loop_lists.read (to_loop r) s.reached) p);
+    kept =
+        q
+        ∙ ap (λ (m : Marks). node_row m 3 0 n z) e
+        ∙ ap (node_row (marks_of w) 3 0 n) (k ∙ ap (keep_child r) s.kept)
+        ∙ sym (loop_row w r s.value n);
+  }
 
-  module _ {mid : ℕ} where
-    -- the body is kept behind the values
-    pub loop_stored : {r c far : ℕ} {z : List ℕ} → Took field.read text at r mid → Stores loop_lists.read keep_loop_lists text mid (some (tt, far)) w u
-        → Took control.read text far c next → z ≡ keep_child r u → v ≡ node_row m 3 0 c z → Stores loop_tail keep_node text at (some (tt, next)) w v
-    unfolding folds
-    loop_stored {r} {c} {z = z} t s d k q =
-        head_took field.read (λ r t. controlled (loop_rest r t)) t
-        (waits_row loop_lists.read (to_loop r) control (λ c u. node_row (marks_of w) 3 0 c (keep_child r u)) (λ x. loop_row w r x c) (loop_lists_law r s) d
-        (q ∙ ap (λ (m : Marks). node_row m 3 0 c z) e ∙ ap (node_row (marks_of w) 3 0 c) k))
+  pub exit_stored : {b : Cursor} {n : ℕ} → Reached inst_head.read b n c → Stored inst_values.read keep_inst_values c d w u → v ≡ node_row m 4 n 0 u → Stored exit_tail keep_node b d w v
+  exit_stored {n = n} t s q = record {
+    value = to_exit (n, s.value);
+    reached = up_reached (seq inst_head inst_values).read to_exit (seq_reads inst_head inst_values t s.reached);
+    kept = q ∙ ap (λ (m : Marks). node_row m 4 n 0 u) e ∙ ap (node_row (marks_of w) 4 n 0) s.kept ∙ sym (exit_row w n s.value);
+  }
 
-    pub exit_stored : {n : ℕ} → Took inst_head.read text at n mid → Stores inst_values.read keep_inst_values text mid (some (tt, next)) w u → v ≡ node_row m 4 n 0 u
-        → Stores exit_tail keep_node text at (some (tt, next)) w v
-    exit_stored {n} t s q =
-        as_up (seq inst_head inst_values).read to_exit
-        (first_took inst_head inst_values (λ n x. keep_node (to_exit (n, x))) t (stores_row (node_row (marks_of w) 4 n 0) (exit_row w n) s (q ∙ ap (λ (m : Marks). node_row m 4 n 0 u) e)))
+  pub select_stored : {b f : Cursor} {k : Selection} {n : ℕ} → Reached selection_head.read b k c → Stored (select_rest k) keep_node_lists c d w u
+      → Reached control.read d n f → v ≡ node_row m (select_number k) (select_opcode k) n u → Stored select_tail keep_node b f w v
+  select_stored {k = k} {n} t s p q =
+      let r = rest_row k s p (q ∙ ap (λ (m : Marks). node_row m (select_number k) (select_opcode k) n u) e) in
+      record { value = r.value; reached = head_reached selection_head.read (λ k t. controlled (select_rest k t)) t r.reached; kept = r.kept }
 
-    pub select_stored : {k : Selection} {c far : ℕ} → Took selection_head.read text at k mid → Stores (select_rest k) keep_node_lists text mid (some (tt, far)) w u
-        → Took control.read text far c next → v ≡ node_row m (select_number k) (select_opcode k) c u → Stores select_tail keep_node text at (some (tt, next)) w v
-    select_stored {k} {c} t s d q =
-        head_took selection_head.read (λ k t. controlled (select_rest k t)) t
-        (rest_row k s d (q ∙ ap (λ (m : Marks). node_row m (select_number k) (select_opcode k) c u) e))
-
-  pub op_stored : (a t : ℕ) (k : OpKind) → Stores (op_rest a t k) keep_op_lists text at (some (tt, next)) w u → v ≡ op_row m a t k u
-      → Stores (op_rest a t k) keep_op text at (some (tt, next)) w v
+  pub op_stored : (a t : ℕ) (k : OpKind) → Stored (op_rest a t k) keep_op_lists c d w u → v ≡ op_row m a t k u → Stored (op_rest a t k) keep_op c d w v
   op_stored a t k s q = op_row_law a t k s (q ∙ ap (λ (m : Marks). op_row m a t k u) e)
 
+-- lists that are read as a part of what a line is read as, and kept alike
+pub up_lists : {A B : Type 0} (read : List ℕ → Reading A) (f : A → B) (k : A → List ℕ → List ℕ) (l : B → List ℕ → List ℕ) (c : Cursor) (found : code.Option Cursor) (w v : List ℕ)
+    → ((a : A) → l (f a) w ≡ k a w) → Stores read k c found w v → Stores (λ t. then (read t) (up f)) l c found w v
+up_lists read f k l c code.None w v e s = up_missed read f s
+up_lists read f k l c (code.Some d) w v e s = record { value = f s.value; reached = up_reached read f s.reached; kept = s.kept ∙ sym (e s.value) }
+
 -- what follows the kind of a select
-module _ {k : Selection} {text : List ℕ} {at : ℕ} {w v : List ℕ} where
-  pub bool_lists : {found : Option (Unit {0} × ℕ)} → k ≡ sel.Bool → Stores select_lists.read keep_select_lists text at found w v → Stores (select_rest k) keep_node_lists text at found w v
-  bool_lists e s = as_told select_rest e (as_up select_lists.read (to_select bool_cond) (as_kept (select_bool w) s))
+module _ {k : Selection} (c : Cursor) where
+  pub bool_lists : (found : code.Option Cursor) (w v : List ℕ) → k ≡ sel.Bool → Stores select_lists.read keep_select_lists c found w v → Stores (select_rest k) keep_node_lists c found w v
+  bool_lists found w v e s = as_told select_rest keep_node_lists c found w v e (up_lists select_lists.read (to_select bool_cond) keep_select_lists keep_node_lists c found w v (select_bool w) s)
 
   module _ {n : ℕ} (e : k ≡ sel.Inst n) where
-    pub inst_refused : Stores imms_codec.read (folds keep_imm) text at none w v → Stores (select_rest k) keep_node_lists text at none w v
-    inst_refused s = as_told select_rest e (as_up (seq imms_codec select_lists).read (to_select_inst n) (first_refused imms_codec select_lists s))
+    pub inst_missed : Missed imms_codec.read c → Missed (select_rest k) c
+    inst_missed s = subst⁻¹ (λ (z : Selection). Missed (select_rest z) c) e (up_missed (seq imms_codec select_lists).read (to_select_inst n) (seq_misses imms_codec select_lists s))
 
-    pub inst_lists : {mid : ℕ} {found : Option (Unit {0} × ℕ)} {u : List ℕ} → Stores imms_codec.read (folds keep_imm) text at (some (tt, mid)) w u
-        → Stores select_lists.read keep_select_lists text mid found u v → Stores (select_rest k) keep_node_lists text at found w v
-    inst_lists s r =
-        as_told select_rest e
-        (as_up (seq imms_codec select_lists).read (to_select_inst n) (as_kept (λ x. select_inst w n x.0 x.1) (first_stored imms_codec select_lists keep_select_lists s r)))
+    abbrev keep_both : List Imm × (Value × (List ℕ × List Decl)) → List ℕ → List ℕ
+    keep_both x w = keep_select_lists x.1 (folds keep_imm x.0 w)
+
+    both : {d : Cursor} (found : code.Option Cursor) {w u : List ℕ} (v : List ℕ) → Stored imms_codec.read (folds keep_imm) c d w u → Stores select_lists.read keep_select_lists d found u v
+        → Stores (seq imms_codec select_lists).read keep_both c found w v
+    both code.None v s r = seq_open imms_codec select_lists s.reached r
+    both (code.Some f) v s r = stored_both imms_codec select_lists keep_select_lists s r
+
+    pub inst_lists : {d : Cursor} (found : code.Option Cursor) {w u : List ℕ} (v : List ℕ) → Stored imms_codec.read (folds keep_imm) c d w u
+        → Stores select_lists.read keep_select_lists d found u v → Stores (select_rest k) keep_node_lists c found w v
+    inst_lists found {w} v s r =
+        as_told select_rest keep_node_lists c found w v e
+        (up_lists (seq imms_codec select_lists).read (to_select_inst n) keep_both keep_node_lists c found w v (λ x. select_inst w n x.0 x.1) (both found v s r))
 
 pub row_by_kind : (m : Marks) (c : ℕ) (u : List ℕ) {k j : Selection} {v : List ℕ} → k ≡ j → v ≡ node_row m (select_number j) (select_opcode j) c u → v ≡ node_row m (select_number k) (select_opcode k) c u
 row_by_kind m c u {v = v} e q = subst⁻¹ (λ (j : Selection). v ≡ node_row m (select_number j) (select_opcode j) c u) e q
 
 -- what follows the kind of an op
-module _ (a t : ℕ) {k : OpKind} {text : List ℕ} {at : ℕ} {found : Option (Unit {0} × ℕ)} {w v : List ℕ} where
-  pub inst_op : {n : ℕ} → k ≡ op.Inst n → Stores inst_values.read keep_inst_values text at found w v → Stores (op_rest a t k) keep_op_lists text at found w v
-  inst_op {n} e s = as_told (op_rest a t) e (as_up inst_values.read (to_op_inst a t n) (as_kept (op_inst_law w a t n) s))
+module _ (a t : ℕ) {k : OpKind} (c : Cursor) (found : code.Option Cursor) (w v : List ℕ) where
+  pub inst_op : {n : ℕ} → k ≡ op.Inst n → Stores inst_values.read keep_inst_values c found w v → Stores (op_rest a t k) keep_op_lists c found w v
+  inst_op {n} e s = as_told (op_rest a t) keep_op_lists c found w v e (up_lists inst_values.read (to_op_inst a t n) keep_inst_values keep_op_lists c found w v (op_inst_law w a t n) s)
 
-  pub call_op : {n : ℕ} → k ≡ op.Call n → Stores (ended_by values_codec).read (folds keep_value) text at found w v → Stores (op_rest a t k) keep_op_lists text at found w v
+  pub call_op : {n : ℕ} → k ≡ op.Call n → Stores (ended_by values_codec).read (folds keep_value) c found w v → Stores (op_rest a t k) keep_op_lists c found w v
   unfolding folds
-  call_op {n} e s = as_told (op_rest a t) e (as_up (ended_by values_codec).read (op_of_tail a t (call n)) s)
+  call_op {n} e s = as_told (op_rest a t) keep_op_lists c found w v e (up_lists (ended_by values_codec).read (op_of_tail a t (call n)) (folds keep_value) keep_op_lists c found w v (λ x. refl) s)
 
-  pub ext_op : {i n : ℕ} → k ≡ op.Ext i n → Stores (ended_by values_codec).read (folds keep_value) text at found w v → Stores (op_rest a t k) keep_op_lists text at found w v
+  pub ext_op : {i n : ℕ} → k ≡ op.Ext i n → Stores (ended_by values_codec).read (folds keep_value) c found w v → Stores (op_rest a t k) keep_op_lists c found w v
   unfolding folds
-  ext_op {i} {n} e s = as_told (op_rest a t) e (as_up (ended_by values_codec).read (op_of_tail a t (ext i n)) s)
+  ext_op {i} {n} e s = as_told (op_rest a t) keep_op_lists c found w v e (up_lists (ended_by values_codec).read (op_of_tail a t (ext i n)) (folds keep_value) keep_op_lists c found w v (λ x. refl) s)

@@ -6,8 +6,6 @@
 pub mod elements; // elements.rt: lists up to their closing bracket, and with the word before them
 pub mod forms; // forms.rt: what ends a line
 
-use read_cursor::{Cursor, Step};
-
 // The elements of a list: numbers that go to a pool, values, inputs or outputs, immediates.
 #[derive(Clone, Copy)]
 pub enum Element {
@@ -27,11 +25,11 @@ pub enum LineKind {
     Op,
 }
 
-// The answer of a line of the kind, or that the next line is of another.
-#[derive(Clone, Copy)]
-pub enum LineRead {
-    Line(Step),
+// Why no line of a kind was read: the next line is of another, or it is of this one and is wrong.
+#[derive(Clone, Copy, PartialEq, Eq)]
+pub enum NoLine {
     Other,
+    Refused,
 }
 
 // The opening word of a node's line.
@@ -41,10 +39,4 @@ pub enum NodeWord {
     Select,
     Loop,
     Exit,
-}
-
-#[derive(Clone, Copy)]
-pub enum NodeWordRead {
-    Word(NodeWord, Cursor),
-    Other,
 }

@@ -1,27 +1,26 @@
 // Reads the opening word of a node's line, by which its kind is told.
 #![tactic(auto)]
 
-ghost use Rattle.read_cursor.specs.Read.{Reads};
-ghost use Rattle.read_lines.specs.Nodes.{node_head, node_word_of};
+ghost use Rattle.read_cursor.specs.Answers.{ReadsOn};
+ghost use Rattle.read_lines.specs.Nodes.{node_head};
 
-use read_cursor::{Cursor, Step};
-use read_lines::{NodeWord, NodeWordRead};
+use read_cursor::Cursor;
+use read_lines::NodeWord;
 
 // The opening word of a node's line.
-pub fn node_word(text: &[u8], from: Cursor) -> NodeWordRead
-    ensures { Reads node_head.read text.now from.at (node_word_of result) }
+#[tactic(auto, using(read_cursor::specs::Chains::choices), unfolding(read_lines::specs::Nodes::node_head, read_lines::specs::Nodes::word_form))]
+pub fn node_word(from: Cursor<'_>) -> Option<(NodeWord, Cursor<'_>)>
+    ensures { ReadsOn node_head.read from.entry result }
 {
-    if let Step::On(c) = from.word(text, b"(block") {
-        return NodeWordRead::Word(NodeWord::Block, c);
+    if let Some(c) = from.word(b"(block") {
+        return Some((NodeWord::Block, c));
     }
-    if let Step::On(c) = from.word(text, b"(select") {
-        return NodeWordRead::Word(NodeWord::Select, c);
+    if let Some(c) = from.word(b"(select") {
+        return Some((NodeWord::Select, c));
     }
-    if let Step::On(c) = from.word(text, b"(loop") {
-        return NodeWordRead::Word(NodeWord::Loop, c);
+    if let Some(c) = from.word(b"(loop") {
+        return Some((NodeWord::Loop, c));
     }
-    let Step::On(c) = from.word(text, b"(exit") else {
-        return NodeWordRead::Other;
-    };
-    NodeWordRead::Word(NodeWord::Exit, c)
+    let c = from.word(b"(exit")?;
+    Some((NodeWord::Exit, c))
 }

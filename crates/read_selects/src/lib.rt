@@ -3,7 +3,6 @@
 
 ghost use Rattle.std.specs.Prelude.{◌≡◌, ◌≤◌, length};
 ghost use Rattle.func.specs.Layout.{func_need};
-ghost use Rattle.read_cursor.specs.Answers.{step_of};
 ghost use Rattle.func.specs.Keep.{keep_node};
 ghost use Rattle.func.specs.Rows.{node_row};
 ghost use Rattle.read_lines.specs.Stores.{Stores};
@@ -12,41 +11,38 @@ ghost use Rattle.read_lines.specs.Keepers.{keep_select_lists, keep_node_lists, s
 
 use func::{Marks, NodeKind};
 use func_pools::CHILD_REFS;
-use read_cursor::{Cursor, NumberRead, Step};
+use read_cursor::Cursor;
+use read_insts::Selection;
 use read_insts::controls::selection;
-use read_insts::{Selection, SelectionRead};
 use read_lines::Element;
 use read_lines::elements::{element, form, list};
 use read_lines::forms::control_end;
 
 // A select's scrutinee, its cases and its outputs.
-fn select_lists(func: &mut [u32], text: &[u8], from: Cursor) -> Step
+#[tactic(auto, using(read_lines::specs::Laws::storing), unfolding(read_lines::specs::Tails::select_lists, read_lines::specs::Tails::select_forms))]
+fn select_lists<'a>(func: &mut [u32], from: Cursor<'a>) -> Option<Cursor<'a>>
     requires { func_need ≤ length func.old }
-    ensures stores { Stores select_lists.read keep_select_lists text.now from.at (step_of result) func.old func.new }
+    ensures stores { Stores select_lists.read keep_select_lists from.entry result func.old func.new }
     ensures func_len_unchanged { length func.new ≡ length func.old }
 {
-    let Step::On(c) = element(func, text, Element::Value, from) else {
-        return Step::Refused;
+    let Some(c) = element(func, Element::Value, from) else {
+        return None;
     };
-    let Step::On(d) = form(func, text, b" (cases", Element::Number(CHILD_REFS), c) else {
-        return Step::Refused;
-    };
-    form(func, text, b" (outs", Element::Decl, d)
+    let d = form(func, b" (cases", Element::Number(CHILD_REFS), c)?;
+    form(func, b" (outs", Element::Decl, d)
 }
 
 // The same, behind the immediates of its INST.
-fn select_rest(func: &mut [u32], text: &[u8], kind: Selection, from: Cursor) -> Step
+fn select_rest<'a>(func: &mut [u32], kind: Selection, from: Cursor<'a>) -> Option<Cursor<'a>>
     requires { func_need ≤ length func.old }
-    ensures stores { Stores (select_rest kind) keep_node_lists text.now from.at (step_of result) func.old func.new }
+    ensures stores { Stores (select_rest kind) keep_node_lists from.entry result func.old func.new }
     ensures func_len_unchanged { length func.new ≡ length func.old }
 {
     match kind {
-        Selection::Bool => select_lists(func, text, from),
+        Selection::Bool => select_lists(func, from),
         Selection::Inst(_) => {
-            let Step::On(c) = list(func, text, Element::Imm, from) else {
-                return Step::Refused;
-            };
-            select_lists(func, text, c)
+            let c = list(func, Element::Imm, from)?;
+            select_lists(func, c)
         }
     }
 }
@@ -64,21 +60,15 @@ fn select_row(func: &mut [u32], from: Marks, kind: Selection, control: u32)
 }
 
 // `(select K V (cases R..) (outs (A T)..) U)`, behind `(select`.
-pub fn select_line(func: &mut [u32], text: &[u8], from: Cursor) -> Step
+pub fn select_line<'a>(func: &mut [u32], from: Cursor<'a>) -> Option<Cursor<'a>>
     requires { func_need ≤ length func.old }
-    ensures stores { Stores select_tail keep_node text.now from.at (step_of result) func.old func.new }
+    ensures stores { Stores select_tail keep_node from.entry result func.old func.new }
     ensures func_len_unchanged { length func.new ≡ length func.old }
 {
     let marks = func_store::begin(func);
-    let SelectionRead::Kind(k, c) = selection(text, from) else {
-        return Step::Refused;
-    };
-    let Step::On(d) = select_rest(func, text, k, c) else {
-        return Step::Refused;
-    };
-    let NumberRead::Number(u, e) = control_end(text, d) else {
-        return Step::Refused;
-    };
+    let (k, c) = selection(from)?;
+    let d = select_rest(func, k, c)?;
+    let (u, e) = control_end(d)?;
     select_row(func, marks, k, u);
-    Step::On(e)
+    Some(e)
 }

@@ -19,15 +19,14 @@ use Rattle.read_cursor.specs.Begins.{go_on}
 use Rattle.func.specs.Store.{folds}
 use Rattle.func.specs.Whole.{headed, with_consts, with_params, with_regions, with_nodes, with_ops}
 use Rattle.func.specs.Keep.{keep_func, keep_const, keep_param, keep_region, keep_node, keep_op, keep_ctrl}
-use Rattle.read_lines.specs.Stores.{Stores, stores_taken, stores_refused}
 use Rattle.read_lines.specs.Lines.{LinesPassed, passed_some, passed_none}
 use Rattle.read_lines.specs.Tails.{func_tail, func_begins, region_tail, region_begins}
 use Rattle.read_lines.specs.Keepers.{keep_func_line}
 use Rattle.read_lines.specs.Kinds.{region_kind}
 use Rattle.read_ctrls.specs.Judge.{keep_judged, start}
 use Rattle.read_ctrls.specs.Same.{func_judged}
-use Rattle.read_ctrls.specs.declared.CtrlsRead.{CtrlsRead}
-use Rattle.read_ctrls.specs.declared.CtrlsRead.TheVariants.{Read, Refused}
+use Rattle.std.specs.Prelude as code
+use Rattle.read_ctrls.specs.declared.CtrlsFit.{CtrlsFit}
 use Rattle.read_ctrls.specs.Whole.{CtrlLines, CtrlsAre}
 use Rattle.read_text.specs.Whole.{keep_body, Says, Body, BodyIs, TailIs, TextIs}
 
@@ -60,9 +59,9 @@ module _ {t : List ℕ} {from i : ℕ} {w v : List ℕ} (p : LinesPassed region_
                 (record { func = c.func; opcodes_are = c.opcodes_are; edges_are = c.edges_are });
           }
 
-      pub body_is : (c : CtrlsRead) (m y : List ℕ) → CtrlsAre c t k x m y → BodyIs region_lines c t from w m y
-      body_is (Read a b) m y c = body_whole c
-      body_is Refused m y c = body_ctrls c
+      pub body_is : (c : code.Option CtrlsFit) (m y : List ℕ) → CtrlsAre c t k x m y → BodyIs region_lines c t from w m y
+      body_is (code.Some z) m y c = body_whole c
+      body_is code.None m y c = body_ctrls c
 
 -- `(imported)` alone, or a body
 abbrev nothing : Regions
@@ -123,9 +122,9 @@ module _ {t : List ℕ} {at : ℕ} (n : Denied (literal (bytes "(imported)\n")) 
         (region_begins.is (drop at t) ∙ ap (λ (o : Reading (Unit {0})). go_on o (λ u. region_tail)) q.is)
         ∙ rest_are (region_tail (drop mid t)) refl
 
-    pub rest_body : (r : CtrlsRead) (w m v : List ℕ) → BodyIs region_lines r t at w m v → BodyIs rest_lines r t at w m v
-    rest_body (Read a b) w m v c = record { body = c.body; read = rest_regions ∙ c.read; says = c.says }
-    rest_body Refused w m v c = rest_regions ∙ c
+    pub rest_body : (r : code.Option CtrlsFit) (w m v : List ℕ) → BodyIs region_lines r t at w m v → BodyIs rest_lines r t at w m v
+    rest_body (code.Some z) w m v c = record { body = c.body; read = rest_regions ∙ c.read; says = c.says }
+    rest_body code.None w m v c = rest_regions ∙ c
 
 -- from the consts on
 module _ {t : List ℕ} {from i : ℕ} {w v : List ℕ} (p : LinesPassed const_lines param_lines keep_const t from w i v) where
@@ -133,9 +132,9 @@ module _ {t : List ℕ} {from i : ℕ} {w v : List ℕ} (p : LinesPassed const_l
   tail_params e = passed_none p e
 
   module _ {j : ℕ} {u : List ℕ} (q : LinesPassed param_lines rest_lines keep_param t i v j u) where
-    pub tail_is : (r : CtrlsRead) (m y : List ℕ) → BodyIs rest_lines r t j u m y → TailIs r t from w m y
-    tail_is Refused m y c = passed_none p (passed_none q c)
-    tail_is (Read a b) m y c =
+    pub tail_is : (r : code.Option CtrlsFit) (m y : List ℕ) → BodyIs rest_lines r t j u m y → TailIs r t from w m y
+    tail_is code.None m y c = passed_none p (passed_none q c)
+    tail_is (code.Some z) m y c =
         let x = c.body in
         let f = passed_some q x c.read in
         let g = passed_some p (f.0, x) f.1 in
@@ -174,29 +173,27 @@ module _ {t : List ℕ} where
     unfolding lit
     behind_head = text_is t ∙ ap (λ (o : Reading (Unit {0})). behind (go_on o (λ u. func_tail.read))) p.is
 
-    pub text_refused : {w v : List ℕ} → Stores func_tail.read keep_func_line t a none w v → read t ≡ none
-    text_refused s = behind_head ∙ ap behind (stores_refused s)
+    pub text_refused : func_tail.read (drop a t) ≡ none → read t ≡ none
+    text_refused e = behind_head ∙ ap behind e
 
-    pub text_whole : {b : ℕ} {w v : List ℕ} → Stores func_tail.read keep_func_line t a (some (tt, b)) w v → (r : CtrlsRead) (m y : List ℕ) → TailIs r t b v m y → TextIs r t w m y
-    text_whole {b} {w} {v} s Refused m y c =
-        behind_head ∙ ap behind (stores_taken s).1 ∙ ap (λ (o : Option ((List Const × (List Decl × Regions)) × Unit {0})). then (then o (both_of (stores_taken s).0)) (λ x. some (to_func x.0))) c
-    text_whole {b} {w} {v} s (Read p q) m y c =
-        let h = stores_taken s in
+    pub text_whole : (b : ℕ) (w : List ℕ) {v : List ℕ} (n : ℕ × (ℕ × (ℕ × ℕ))) → func_tail.read (drop a t) ≡ some (n, drop b t) → v ≡ keep_func_line n w → (r : code.Option CtrlsFit) (m y : List ℕ) → TailIs r t b v m y → TextIs r t w m y
+    text_whole b w n h l code.None m y c =
+        behind_head ∙ ap behind h ∙ ap (λ (o : Option ((List Const × (List Decl × Regions)) × Unit {0})). then (then o (both_of n)) (λ x. some (to_func x.0))) c
+    text_whole b w {v} n h l (code.Some z) m y c =
         let x : List Const × (List Decl × Regions) = (c.consts, (c.params, c.body)) in
-        let F = to_func (h.0, x) in
-        let k : with_ops F w ≡ keep_body c.body (folds keep_param c.params (folds keep_const c.consts v)) = words h.0 x h.2 in
+        let F = to_func (n, x) in
+        let k : with_ops F w ≡ keep_body c.body (folds keep_param c.params (folds keep_const c.consts v)) = words x in
         let e = says_from F.ctrls m k c.says in
         record {
           F = F;
-          read_is = behind_head ∙ ap behind h.1 ∙ ap (λ (o : Option ((List Const × (List Decl × Regions)) × Unit {0})). then (then o (both_of h.0)) (λ x. some (to_func x.0))) c.read;
+          read_is = behind_head ∙ ap behind h ∙ ap (λ (o : Option ((List Const × (List Decl × Regions)) × Unit {0})). then (then o (both_of n)) (λ x. some (to_func x.0))) c.read;
           func = kept F ∙ sym (func_judged F.ctrls (start (with_ops F w) m)) ∙ e.func;
           opcodes_are = e.opcodes_are;
           edges_are = e.edges_are;
         }
       where
-        words : (n : ℕ × (ℕ × (ℕ × ℕ))) (x : List Const × (List Decl × Regions)) → keep_func_line n w ≡ v
-            → with_ops (to_func (n, x)) w ≡ keep_body x.1.1 (folds keep_param x.1.0 (folds keep_const x.0 v))
-        words n x e = unfold with_ops with_nodes with_regions with_params with_consts headed in ap (λ (z : List ℕ). keep_body x.1.1 (folds keep_param x.1.0 (folds keep_const x.0 z))) e
+        words : (x : List Const × (List Decl × Regions)) → with_ops (to_func (n, x)) w ≡ keep_body x.1.1 (folds keep_param x.1.0 (folds keep_const x.0 v))
+        words x = unfold with_ops with_nodes with_regions with_params with_consts headed in ap (λ (z : List ℕ). keep_body x.1.1 (folds keep_param x.1.0 (folds keep_const x.0 z))) (sym l)
 
         kept : (F : Func) → keep_func F w ≡ folds keep_ctrl F.ctrls (start (with_ops F w) m).func
         kept F = unfold keep_func with_ops with_nodes with_regions with_params with_consts headed start in refl

@@ -23,6 +23,8 @@ use Rattle.func.specs.Kinds.{as_value}
 use Rattle.func.specs.declared.Val.{Val}
 use Rattle.func.specs.declared.Val.TheVariants.{Const, Input, Output, Result}
 use Rattle.read_cursor.specs.Laws.{strip_is, strip_not}
+use Rattle.read_cursor.specs.Answers.{Reached, Missed}
+use Rattle.read_cursor.specs.declared.Cursor.{Cursor}
 
 -- the part: no words of a value, the words alone, or the words and more
 module _ {part : List ℕ} where
@@ -47,15 +49,15 @@ value_form_law t r (Input n i) e = rw e
 value_form_law t r (Output n i) e = rw e
 value_form_law t r (Result n) e = rw e
 
-no_value : (t : List ℕ) → value_form.read t ≡ none → value_codec.read t ≡ none
+form_missed : (t : List ℕ) → value_form.read t ≡ none → value_codec.read t ≡ none
 unfolding value_codec same view_as
-no_value t e = rw e
+form_missed t e = rw e
 
 -- no space and bracket
 pub value_off : {text : List ℕ} {at : ℕ} → Denied (literal (bytes " (")) text at → Denied value_codec.read text at
 unfolding value_by_part formed_by
 value_off {text} {at} p =
-    record { is = no_value (drop at text) (value_by_part_law (drop at text) ∙ rw (strip_not (bytes " (") p)); moves = tt }
+    record { is = form_missed (drop at text) (value_by_part_law (drop at text) ∙ rw (strip_not (bytes " (") p)); moves = tt }
 
 -- the part stands behind them up to its bracket, within the text
 pub record Inside (text : List ℕ) (at start : ℕ) (part : List ℕ) (x : ValueForm) : Type 0 where
@@ -96,9 +98,23 @@ module _ {text : List ℕ} {at start : ℕ} (p : Took (literal (bytes " (")) tex
       record { is = value_form_law (drop at text) (drop (start + length part + 1) text) v i.is; moves = record { moved = omega (arith, p.moves.moved); fits = i.fits } }
 
   pub value_not : read_whole value_part part ≡ none → Denied value_codec.read text at
-  value_not h = record { is = no_value (drop at text) (by_part ∙ go (form_span 0 0 behind) part_is); moves = tt }
+  value_not h = record { is = form_missed (drop at text) (by_part ∙ go (form_span 0 0 behind) part_is); moves = tt }
     where
       go : (o : Option ℕ) → part ≡ form_first behind o
           → ◌≡◌ {A = Reading ValueForm} (then o (λ m. then (read_whole value_part (take m behind)) (λ x. some (x, drop (m + 1) behind)))) none
       go none g = refl
       go (some m) g = rw (← g, h)
+
+-- the same, from one cursor to the next
+pub value_missed : {from : Cursor} → Missed (literal (bytes " (")) from → Missed value_codec.read from
+value_missed p = record { denied = value_off p.denied }
+
+module _ {from c : Cursor} (p : Reached (literal (bytes " (")) from tt c) {part : List ℕ} (e : part ≡ form_at c.text.now (c.at - 1)) where
+  part_here : part ≡ form_at from.text.now (c.at - 1)
+  part_here = e ∙ ap (λ t. form_at t.now (c.at - 1)) p.same_text
+
+  pub value_unread : read_whole value_part part ≡ none → Missed value_codec.read from
+  value_unread h = record { denied = value_not p.took part_here h }
+
+  pub value_reached : (v : Val) → read_whole value_part part ≡ some (form_of v) → Reached value_codec.read from (as_value v) (record { text = c.text; at = c.at + length part + 1 })
+  value_reached v h = record { took = value_on p.took part_here v h; same_text = p.same_text }

@@ -4,77 +4,62 @@
 ghost use Rattle.std.specs.Prelude.{◌≡◌};
 ghost use Rattle.lifting.specs.Whole.{read_whole};
 ghost use Rattle.lifting.specs.Grammar.{value_codec};
-ghost use Rattle.read_cursor.specs.Read.{Reads};
-ghost use Rattle.read_values.specs.Answers.{found_of, value_answer, part_answer};
+ghost use Rattle.read_cursor.specs.Answers.{ReadsAs};
+ghost use Rattle.func.specs.Kinds.{as_value};
+ghost use Rattle.read_values.specs.Answers.{form_of, part_answer};
 ghost use Rattle.read_values.specs.Part.{value_parts, value_part};
 
 use func::Val;
-use read_cursor::{Cursor, NumberRead, Step};
-use read_fields::{PairRead, after, pair_after};
+use read_cursor::Cursor;
+use read_fields::{after, pair_after};
 use read_forms::form;
 
-#[derive(Clone, Copy)]
-pub enum ValueRead {
-    Found(Val, Cursor),
-    Refused,
-}
-
-// What a part holds.
-#[derive(Clone, Copy)]
-enum PartRead {
-    Whole(Val),
-    Refused,
-}
-
 // What stands between a value's brackets: `c N`, `r R I`, `n N I` or `d I`.
-fn words(text: &[u8], from: Cursor) -> ValueRead
-    ensures { Reads value_parts.read text.now from.at (value_answer result) }
+#[tactic(auto, using(read_cursor::specs::Chains::choices), unfolding(crate::specs::Part::value_parts))]
+fn words(from: Cursor<'_>) -> Option<(Val, Cursor<'_>)>
+    ensures { ReadsAs form_of value_parts.read from.entry result }
 {
-    if let NumberRead::Number(n, c) = after(text, from, b"c") {
-        return ValueRead::Found(Val::Const(n), c);
+    if let Some((n, c)) = after(from, b"c") {
+        return Some((Val::Const(n), c));
     }
-    if let PairRead::Pair(m, n, c) = pair_after(text, from, b"r") {
-        return ValueRead::Found(Val::Input(m, n), c);
+    if let Some(((m, n), c)) = pair_after(from, b"r") {
+        return Some((Val::Input(m, n), c));
     }
-    if let PairRead::Pair(m, n, c) = pair_after(text, from, b"n") {
-        return ValueRead::Found(Val::Output(m, n), c);
+    if let Some(((m, n), c)) = pair_after(from, b"n") {
+        return Some((Val::Output(m, n), c));
     }
-    let NumberRead::Number(n, c) = after(text, from, b"d") else {
-        return ValueRead::Refused;
-    };
-    ValueRead::Found(Val::Result(n), c)
+    let (n, c) = after(from, b"d")?;
+    Some((Val::Result(n), c))
 }
 
 // The value that a part holds, which must be the whole of it.
-fn value_in(part: &[u8]) -> PartRead
+fn value_in(part: &[u8]) -> Option<Val>
     ensures { read_whole value_part part.now ≡ part_answer result }
 {
-    let start = Cursor { at: 0 };
-    let ValueRead::Found(v, c) = words(part, start) else {
-        return PartRead::Refused;
+    let start = Cursor { text: part, at: 0 };
+    let Some((v, c)) = words(start) else {
+        return None;
     };
-    if c.end(part) {
-        return PartRead::Whole(v);
+    if c.end() {
+        return Some(v);
     }
-    PartRead::Refused
+    None
 }
 
 // ` V`: the part between its brackets is found first, and read by itself.
-pub fn value(text: &[u8], from: Cursor) -> ValueRead
-    ensures { Reads value_codec.read text.now from.at (found_of result) }
+pub fn value(from: Cursor<'_>) -> Option<(Val, Cursor<'_>)>
+    ensures { ReadsAs as_value value_codec.read from.entry result }
 {
-    let Step::On(c) = from.word(text, b" (") else {
-        return ValueRead::Refused;
+    let c = from.word(b" (")?;
+    let part = form(c.text, c.at - 1);
+    let Some(v) = value_in(part) else {
+        return None;
     };
-    let start = c.at;
-    let part = form(text, start - 1);
-    let PartRead::Whole(v) = value_in(part) else {
-        return ValueRead::Refused;
-    };
-    ValueRead::Found(
+    Some((
         v,
         Cursor {
-            at: start + part.len() + 1,
+            text: c.text,
+            at: c.at + part.len() + 1,
         },
-    )
+    ))
 }

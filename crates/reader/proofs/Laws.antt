@@ -8,8 +8,6 @@ use lib.Dec.{leb}
 use borrow.Author.Tests.{le-leb, lt-leb}
 use Rattle.lifting.specs.Limits.{func_words, work_words}
 use Rattle.func.specs.Whole.{Clear}
-use Rattle.read_ctrls.specs.declared.CtrlsRead.{CtrlsRead}
-use Rattle.read_text.specs.Whole.{TextIs}
 use Rattle.results.specs.declared.Parsed.{Parsed}
 use Rattle.work.specs.Layout.{entered_at, entered_end}
 use Rattle.work.specs.Aside.{Cleared}
@@ -21,10 +19,6 @@ enough_no {n} m h = sym (ap (λ (b : Bool). b && leb work_words m) (lt-leb func_
 
 pub enough_half : (n m : ℕ) → func_words ≤ n → leb work_words m ≡ enough_test n m
 enough_half n m h = sym (ap (λ (b : Bool). b && leb work_words m) (le-leb func_words n h))
-
--- by the answer of the reading
-pub text_told : (text f w v : List ℕ) {r s : CtrlsRead} → r ≡ s → TextIs r text f w v → TextIs s text f w v
-text_told text f w v q t = subst (λ (r : CtrlsRead). TextIs r text f w v) q t
 
 pub clear_as : {w u : List ℕ} → u ≡ w → Clear w → Clear u
 clear_as e c = subst Clear (sym e) c

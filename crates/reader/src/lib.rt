@@ -9,7 +9,6 @@ ghost use Rattle.reader.specs.Parse.{Judges, Unentered, answer_of, func_after, w
 
 use check_text::checks;
 use func_pools::empty;
-use read_ctrls::CtrlsRead;
 use read_text::read_text;
 use refusals::Refusal;
 use refusals::limits::{FUNC_WORDS, MAX_BYTES, WORK_WORDS};
@@ -38,10 +37,10 @@ fn judge_text(text: &[u8], func: &mut [u32], work: &mut [u32]) -> Parsed
     if MAX_BYTES < text.len() {
         return Parsed::Refused(Refusal::Long);
     }
-    let CtrlsRead::Read(opcodes, edges) = read_text(func, work, text) else {
+    let Some(fit) = read_text(func, work, text) else {
         return Parsed::Refused(Refusal::Forms);
     };
-    checks(func, work, opcodes, edges)
+    checks(func, work, fit.opcodes, fit.edges)
 }
 
 // The text, judged over whatever the slices held: only the pools' counts and the table of entries are cleared before. The work slice keeps what the

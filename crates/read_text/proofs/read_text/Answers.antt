@@ -2,28 +2,33 @@
 -- (`text_refused`) the text is refused.
 use mathlib.Core.Path.{◌∙◌}
 use native.Mathlib.Omega.{arith}
-use Rattle.read_cursor.specs.Answers.{step_of}
-use Rattle.read_cursor.specs.Laws.{by_answer}
-use Rattle.read_lines.specs.Stores.{met}
+use Rattle.read_cursor.specs.Chains.{took_next, denied_next}
+use Rattle.read_cursor.specs.declared.Cursor.{Cursor}
 use Rattle.read_text.specs.Chain.{text_headless, text_refused, text_whole}
+use Rattle.read_text.proofs.Laws.{text_kept, tail_next, text_no}
 use borrow.Author.Rules.{rules}
 use Rattle.read_text.proofs.read_text.Goals as goal
 
-pub returns-in_default : goal.returns-in_default
-returns-in_default c =
-    let p = by_answer step_of c.in_default.is c.word.ensures in
-    record { text_is = text_headless p; func_len_unchanged = search rules; work_len_unchanged = search rules }
+pub returns-in_err-a : goal.returns-in_err-a
+returns-in_err-a c = record { text_is = text_no _ _ _ _ c.from_residual.ensures (text_headless c.in_err-a.ensures.denied); func_len_unchanged = search rules; work_len_unchanged = search rules }
 
-pub returns-in_default-func_line : goal.returns-in_default-func_line
-returns-in_default-func_line c =
-    let p = by_answer step_of c.in-On.is c.word.ensures in
-    record { text_is = text_refused p (met c.in_default-func_line.is c.func_line.ensures.stores); func_len_unchanged = c.func_line.ensures.func_len_unchanged; work_len_unchanged = search rules }
+pub returns-in_err-b : goal.returns-in_err-b
+returns-in_err-b c =
+    let p = c.in_ok-a.ensures in
+    let from : Cursor = record { text = c.args.text; at = 0 } in
+    record { text_is = text_no _ _ _ _ c.from_residual-in_err-b.ensures (text_refused p.took (denied_next from p.same_text c.in_err-b.ensures.stores).is); func_len_unchanged = c.func_line.ensures.func_len_unchanged; work_len_unchanged = search rules }
 
 pub tail_lines-requires : goal.tail_lines-requires
-tail_lines-requires c = (omega (arith, c.func_line.ensures.func_len_unchanged, c.requires.0), c.requires.1, (met c.in-On-func_line.is c.func_line.ensures.stores).moves.fits, c.requires.2)
+tail_lines-requires c =
+    let p = c.in_ok-a.ensures in
+    let s = c.in_ok-b.ensures.stores.reached in
+    let t = text_kept c.in_ok-a.a c.in_ok-b.b s.same_text in
+    let u = text_kept (record { text = c.args.text; at = 0 }) c.in_ok-a.a p.same_text in
+    (omega (arith, c.func_line.ensures.func_len_unchanged, c.requires.0), c.requires.1, omega (arith, t, s.took.moves.fits), omega (arith, t, u, c.requires.2))
 
 pub returns : goal.returns
 returns c =
-    let p = by_answer step_of c.in-On.is c.word.ensures in
-    let s = met c.in-On-func_line.is c.func_line.ensures.stores in
-    record { text_is = text_whole p s c.tail_lines.result _ c.tail_lines.new.func c.tail_lines.ensures.tail_is; func_len_unchanged = c.tail_lines.ensures.func_len_unchanged ∙ c.func_line.ensures.func_len_unchanged; work_len_unchanged = c.tail_lines.ensures.work_len_unchanged }
+    let p = c.in_ok-a.ensures in
+    let s = c.in_ok-b.ensures.stores in
+    let from : Cursor = record { text = c.args.text; at = 0 } in
+    record { text_is = text_whole p.took c.in_ok-b.b.at c.args.func.now s.value (took_next from p.same_text s.reached).is s.kept c.tail_lines.result _ c.tail_lines.new.func (tail_next from c.in_ok-b.b (s.reached.same_text ∙ p.same_text) c.tail_lines.result _ _ _ c.tail_lines.ensures.tail_is); func_len_unchanged = c.tail_lines.ensures.func_len_unchanged ∙ c.func_line.ensures.func_len_unchanged; work_len_unchanged = c.tail_lines.ensures.work_len_unchanged }

@@ -1,20 +1,14 @@
 -- Behind the space and the bracket stands the part that `form` hands back, and what `value_in` says of it is what the grammar says of the words
--- (`value_on`, `value_not`).
-use mathlib.Core.Path.{ap, ◌∙◌}
-use Prim.Native.Nat.{◌+◌, ◌≤◌}
-use native.Mathlib.Omega.{arith}
-use lib.ListN.{length}
-use Rattle.read_cursor.specs.Answers.{step_of}
-use Rattle.read_values.specs.Answers.{part_answer}
-use Rattle.read_cursor.specs.Laws.{by_answer}
-use Rattle.read_values.proofs.Values.{value_off, value_inside, value_on, value_not}
+-- (`value_reached`, `value_unread`).
+use Rattle.read_cursor.specs.Chains.{no_value}
+use Rattle.read_values.proofs.Values.{value_missed, value_unread, value_reached}
 use Rattle.read_values.proofs.value.Goals as goal
 
-pub returns-in_default : goal.returns-in_default
-returns-in_default c = value_off (by_answer step_of c.in_default.is c.word.ensures)
+pub returns-in_err-c : goal.returns-in_err-c
+returns-in_err-c c = no_value _ c.from_residual.ensures (value_missed c.in_err-c.ensures)
 
-pub returns-in_default-value_in : goal.returns-in_default-value_in
-returns-in_default-value_in c = value_not (by_answer step_of c.in-On.is c.word.ensures) c.form-part.ensures (c.value_in.ensures ∙ ap part_answer c.in_default-value_in.is)
+pub returns-in_default : goal.returns-in_default
+returns-in_default c = value_unread c.in_ok-c.ensures c.form-part.ensures c.in_default.ensures
 
 pub returns : goal.returns
-returns c = value_on (by_answer step_of c.in-On.is c.word.ensures) c.form-part.ensures c.in-Whole.v (c.value_in.ensures ∙ ap part_answer c.in-Whole.is)
+returns c = value_reached c.in_ok-c.ensures c.form-part.ensures c.in-Some.v c.in-Some.ensures

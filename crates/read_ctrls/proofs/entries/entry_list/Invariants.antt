@@ -4,14 +4,14 @@ use mathlib.Core.Path.{◌≡◌}
 use Prim.Native.Nat.{◌-◌}
 use lib.ListN.{length}
 use Rattle.lifting.specs.Grammar.{entries_codec}
-use Rattle.read_lines.specs.Stores.{ListAlong}
+use Rattle.read_lines.specs.Stores.{ListOn}
 use Rattle.check_edges.specs.Edges.{keep_edge}
 use Rattle.read_ctrls.specs.Answers.{edges_state}
 use Rattle.read_ctrls.proofs.Laws.{edges_length}
 use Rattle.read_ctrls.proofs.entries.entry_list.Given as goal
 
 abbrev pub invariant-loop-d : goal.invariant-loop-d
-invariant-loop-d l = ListAlong edges_length entries_codec (keep_edge l.line) l.text l.initial.c.at (edges_state l.initial.func l.initial.work l.initial.fit) l.c.at (edges_state l.func l.work l.fit) × (length l.work ≡ length l.initial.work)
+invariant-loop-d l = ListOn edges_length entries_codec (keep_edge l.line) l.initial.c (edges_state l.initial.func l.initial.work l.initial.fit) l.c (edges_state l.func l.work l.fit) × (length l.work ≡ length l.initial.work)
 
 abbrev pub decreases-loop-d : goal.decreases-loop-d
-decreases-loop-d l = length l.text - l.c.at
+decreases-loop-d l = length l.c.text.now - l.c.at

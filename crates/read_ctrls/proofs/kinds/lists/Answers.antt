@@ -6,25 +6,24 @@ use Rattle.read_insts.specs.Heads.{control_rest}
 use Rattle.read_insts.specs.declared.Control.{Control}
 use Rattle.read_insts.specs.declared.Control.TheVariants as ctrl
 use Rattle.read_ctrls.proofs.Ranges.{plain_lists, inst_lists, exit_lists}
-use borrow.Author.Rules.{rules}
 use Rattle.read_ctrls.proofs.kinds.lists.Goals as goal
 
-pub returns-in-Unreachable : goal.returns-in-Unreachable
-returns-in-Unreachable c = record { stores = plain_lists c.args.kind unreachable refl (λ u. ap (λ (k : Control). control_rest k u) c.in-Unreachable.is) c.forms.ensures.stores; func_len_unchanged = search rules }
+pub returns-in-Unreachable-clause-stores : goal.returns-in-Unreachable-clause-stores
+returns-in-Unreachable-clause-stores c = plain_lists c.args.kind _ c.forms.result _ _ unreachable refl (λ u. ap (λ (k : Control). control_rest k u) c.in-Unreachable.is) c.forms.ensures.stores
 
-pub returns-in-Return : goal.returns-in-Return
-returns-in-Return c = record { stores = plain_lists c.args.kind return refl (λ u. ap (λ (k : Control). control_rest k u) c.in-Return.is) c.forms-in-Return.ensures.stores; func_len_unchanged = search rules }
+pub returns-in-Return-clause-stores : goal.returns-in-Return-clause-stores
+returns-in-Return-clause-stores c = plain_lists c.args.kind _ c.forms-in-Return.result _ _ return refl (λ u. ap (λ (k : Control). control_rest k u) c.in-Return.is) c.forms-in-Return.ensures.stores
 
-pub returns-in-Branch : goal.returns-in-Branch
-returns-in-Branch c = record { stores = plain_lists c.args.kind branch refl (λ u. ap (λ (k : Control). control_rest k u) c.in-Branch.is) c.forms-in-Branch.ensures.stores; func_len_unchanged = search rules }
+pub returns-in-Branch-clause-stores : goal.returns-in-Branch-clause-stores
+returns-in-Branch-clause-stores c = plain_lists c.args.kind _ c.forms-in-Branch.result _ _ branch refl (λ u. ap (λ (k : Control). control_rest k u) c.in-Branch.is) c.forms-in-Branch.ensures.stores
 
-pub returns-in-Exit : goal.returns-in-Exit
-returns-in-Exit c = record { stores = exit_lists c.in-Exit.is c.exit_forms.ensures.stores; func_len_unchanged = search rules }
+pub returns-in-Exit-clause-stores : goal.returns-in-Exit-clause-stores
+returns-in-Exit-clause-stores c = exit_lists _ c.exit_forms.result _ _ c.in-Exit.is c.exit_forms.ensures.stores
 
-pub returns-in-Bool : goal.returns-in-Bool
-returns-in-Bool c =
+pub returns-in-Bool-clause-stores : goal.returns-in-Bool-clause-stores
+returns-in-Bool-clause-stores c =
     let e = c.in-Select.is ∙ ap ctrl.Select c.in-Bool.is in
-    record { stores = plain_lists c.args.kind (select_branch bool_cond) refl (λ u. ap (λ (k : Control). control_rest k u) e) c.forms-in-Bool.ensures.stores; func_len_unchanged = search rules }
+    plain_lists c.args.kind _ c.forms-in-Bool.result _ _ (select_branch bool_cond) refl (λ u. ap (λ (k : Control). control_rest k u) e) c.forms-in-Bool.ensures.stores
 
-pub returns-in-Inst : goal.returns-in-Inst
-returns-in-Inst c = record { stores = inst_lists (c.in-Select.is ∙ ap ctrl.Select c.in-Inst.is) c.inst_forms.ensures.stores; func_len_unchanged = search rules }
+pub returns-in-Inst-clause-stores : goal.returns-in-Inst-clause-stores
+returns-in-Inst-clause-stores c = inst_lists _ c.inst_forms.result _ _ (c.in-Select.is ∙ ap ctrl.Select c.in-Inst.is) c.inst_forms.ensures.stores

@@ -1,37 +1,51 @@
--- The first byte decides between no number, a 0 alone and more digits, and the loop's invariant (`Digits`) says that the number goes on from the
--- value so far. That value is below 2 ^ 32, so that the next one fits 64 bits and is compared there.
-use Prim.Native.Nat.{◌-◌}
+-- The first byte decides between no number, a 0 alone and more digits. The value so far is below 2 ^ 32, and where the next one is not there is no
+-- number.
+use mathlib.Core.Path.{refl, sym, ◌∙◌}
+use lib.ListN.{get_or}
 use native.Mathlib.Omega.{arith}
-use borrow.Author.Rules.{rules}
-use Rattle.read_cursor.proofs.Laws.{number_past, number_low, number_high, number_zero, digits_first, digits_low, digits_high, digits_end, digits_over, digits_next}
+use Rattle.read_cursor.specs.Chains.{no_value}
+use Rattle.read_cursor.proofs.Laws.{digit_as, number_past, number_none, number_zero, digits_first, digits_stop, digits_end, digits_over, digits_next}
 use Rattle.read_cursor.proofs.Cursor.number.Goals as goal
 
-pub returns-then-text-at : goal.returns-then-text-at
-returns-then-text-at c = number_past (omega arith)
+pub returns-in_err-first : goal.returns-in_err-first
+returns-in_err-first c = no_value _ c.from_residual.ensures (record { denied = number_past (omega (arith, c.in_err-first.ensures)) })
 
-pub returns-then-first-lt48 : goal.returns-then-first-lt48
-returns-then-first-lt48 c = number_low (omega arith) (search rules)
-
-pub returns-then-first-gt57 : goal.returns-then-first-gt57
-returns-then-first-gt57 c = number_high (omega arith) (search rules)
+pub returns-then-not-is_ascii_digit : goal.returns-then-not-is_ascii_digit
+returns-then-not-is_ascii_digit c =
+    let here = c.in_ok-first.ensures.lookup.3 in
+    record { denied = number_none here.0 (here.1 0) (digit_as c.in_ok-first.field-0.now c.is_ascii_digit.ensures.value c.if-not-is_ascii_digit.true) }
 
 pub returns-then-first-eq48 : goal.returns-then-first-eq48
-returns-then-first-eq48 c = number_zero (omega arith) (search rules)
+returns-then-first-eq48 c =
+    let here = c.in_ok-first.ensures.lookup.3 in
+    record { took = number_zero here.0 (sym (here.1 0) ∙ c.if-first-eq48.true); same_text = refl }
 
 pub loop-i-init : goal.loop-i-init
-loop-i-init c = digits_first (omega arith) (omega arith) (omega arith) (search rules) (omega arith)
+loop-i-init c =
+    let here = c.in_ok-first.ensures.lookup.3 in
+    digits_first here.0 (here.1 0) (digit_as c.in_ok-first.field-0.now c.is_ascii_digit.ensures.value c.if-not-is_ascii_digit.false) c.if-first-eq48.false c.from-n.ensures
 
-pub returns-then-b-lt48 : goal.returns-then-b-lt48
-returns-then-b-lt48 c = digits_low c.loop-i.invariant (omega arith) (search rules)
+pub returns-then-not-is_ascii_digit-2 : goal.returns-then-not-is_ascii_digit-2
+returns-then-not-is_ascii_digit-2 c =
+    let other = digit_as (get_or c.args.self.text.now c.loop-i.i 0) c.is_ascii_digit-in-loop-i.ensures.value c.if-not-is_ascii_digit-2.true in
+    record { took = digits_stop c.loop-i.invariant (omega arith) other; same_text = refl }
 
-pub returns-then-b-gt57 : goal.returns-then-b-gt57
-returns-then-b-gt57 c = digits_high c.loop-i.invariant (omega arith) (search rules)
+pub returns-in_err-checked_mul : goal.returns-in_err-checked_mul
+returns-in_err-checked_mul c =
+    let more = digit_as (get_or c.args.self.text.now c.loop-i.i 0) c.is_ascii_digit-in-loop-i.ensures.value c.if-not-is_ascii_digit-2.false in
+    no_value _ c.from_residual-in_err-checked_mul.ensures (record { denied = digits_over c.loop-i.invariant (omega arith) more (grind (arith, c.in_err-checked_mul.ensures)) })
 
-pub returns-then-m-gt4294967295 : goal.returns-then-m-gt4294967295
-returns-then-m-gt4294967295 c = digits_over c.loop-i.invariant (omega arith) (omega arith) (omega arith) (omega arith)
+pub returns-in_err-n : goal.returns-in_err-n
+returns-in_err-n c =
+    let more = digit_as (get_or c.args.self.text.now c.loop-i.i 0) c.is_ascii_digit-in-loop-i.ensures.value c.if-not-is_ascii_digit-2.false in
+    no_value _ c.from_residual-in_err-n.ensures (record { denied = digits_over c.loop-i.invariant (omega arith) more (grind (arith, c.in_ok-checked_mul.ensures, c.in_err-n.ensures)) })
 
 pub loop-i-preserved : goal.loop-i-preserved
-loop-i-preserved c = digits_next c.loop-i.invariant (omega arith) (omega arith) (omega arith) (omega arith) (omega arith)
+loop-i-preserved c =
+    let more = digit_as (get_or c.args.self.text.now c.loop-i.i 0) c.is_ascii_digit-in-loop-i.ensures.value c.if-not-is_ascii_digit-2.false in
+    let product = c.in_ok-checked_mul.ensures in
+    let sum = c.in_ok-n.ensures in
+    digits_next c.loop-i.invariant (omega arith) more (omega arith) (omega arith)
 
 pub returns : goal.returns
-returns c = digits_end c.loop-i.invariant (omega arith)
+returns c = record { took = digits_end c.loop-i.invariant (omega arith); same_text = refl }

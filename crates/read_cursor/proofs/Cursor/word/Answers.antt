@@ -1,25 +1,21 @@
--- A literal that is longer than the rest of the text is missed, and else the loop compares byte for byte. Its invariant (`WordAlong`) says that what
--- is left of the literal is to be read from where the loop stands; its measure is what is left of the literal.
-use Prim.Native.Nat.{◌-◌}
+-- A text that ends before the place has no word there (`along_past`), and else the test of its bytes tells (`word_miss`, `word_hit`).
+use mathlib.Core.Path.{refl}
 use native.Mathlib.Omega.{arith}
 use borrow.Author.Rules.{rules}
-use Rattle.read_cursor.specs.Laws.{along_past, word_along_first, along_miss, along_next, along_done}
+use Rattle.read_cursor.specs.Laws.{along_past, word_miss, word_hit}
+use Rattle.read_cursor.specs.Chains.{no_step}
 use Rattle.read_cursor.proofs.Cursor.word.Goals as goal
 
-pub returns-then-text-from : goal.returns-then-text-from
-returns-then-text-from c = along_past _ (omega arith) (omega arith)
+pub returns-in_err-get : goal.returns-in_err-get
+returns-in_err-get c = no_step c.from_residual.ensures (record { denied = along_past _ (grind (arith, c.in_err-get.ensures)) c.requires })
 
-pub returns-then-text-from-2 : goal.returns-then-text-from-2
-returns-then-text-from-2 c = along_past _ (omega arith) (omega arith)
-
-pub loop-i-init : goal.loop-i-init
-loop-i-init c = word_along_first (omega arith) (omega arith)
-
-pub returns-then-text-from-3 : goal.returns-then-text-from-3
-returns-then-text-from-3 c = along_miss c.loop-i.invariant (omega arith) (search rules)
-
-pub loop-i-preserved : goal.loop-i-preserved
-loop-i-preserved c = along_next c.loop-i.invariant (omega arith) (search rules)
+pub returns-then-not-starts_with : goal.returns-then-not-starts_with
+returns-then-not-starts_with c =
+    let in_text = c.in_ok-get.ensures.lookup.0 in
+    record { denied = word_miss _ _ in_text.0 in_text.2 c.if-not-starts_with.ensures.value }
 
 pub returns : goal.returns
-returns c = along_done c.loop-i.invariant (omega arith)
+returns c =
+    let in_text = c.in_ok-get.ensures.lookup.0 in
+    let tested = c.if-not-starts_with.ensures in
+    record { took = word_hit _ _ in_text.0 in_text.2 c.requires (tested.bound (search rules)) in_text.3 tested.value; same_text = refl }

@@ -1,25 +1,16 @@
 -- The word, two numbers and the head of X are read one behind the other, as `op_head` lines them up; where one is missed the whole is.
-use mathlib.Core.Path.{refl}
-use Rattle.lifting.specs.Bytes.{bytes}
-use Rattle.lifting.specs.Codec.{same, view_as}
-use Rattle.read_insts.specs.Answers.{op_kind_of}
-use Rattle.read_fields.specs.Answers.{pair_answer}
-use Rattle.read_insts.specs.Heads.{op_head, op_head_form, op_kind_head, to_op}
-use Rattle.read_cursor.specs.Laws.{head_misses, head_reads, by_answer}
+use Rattle.read_insts.specs.Heads.{op_head, op_head_form}
+use Rattle.read_cursor.specs.Chains.{no_value, headed_missed, headed_open, headed_reached}
 use Rattle.read_insts.proofs.ops.op.Goals as goal
 
-pub returns-in_default : goal.returns-in_default
-unfolding op_head_form op_head same view_as
-returns-in_default c = head_misses (bytes "(op") refl op_kind_head to_op (by_answer pair_answer c.in_default.is c.pair_after.ensures)
+pub returns-in_err-attrs : goal.returns-in_err-attrs
+unfolding op_head_form op_head
+returns-in_err-attrs c = no_value _ c.from_residual.ensures (headed_missed _ _ _ _ _ _ _ c.in_err-attrs.ensures)
 
-pub returns-in_default-op_kind : goal.returns-in_default-op_kind
-unfolding op_head_form op_head same view_as
-returns-in_default-op_kind c =
-    let p = by_answer pair_answer c.in-Pair.is c.pair_after.ensures in
-    head_reads (bytes "(op") refl op_kind_head to_op p (by_answer op_kind_of c.in_default-op_kind.is c.op_kind.ensures)
+pub returns-in_err-kind : goal.returns-in_err-kind
+unfolding op_head_form op_head
+returns-in_err-kind c = no_value _ c.from_residual-in_err-kind.ensures (headed_open _ _ _ _ _ _ _ c.in_ok-attrs.ensures c.in_err-kind.ensures)
 
 pub returns : goal.returns
-unfolding op_head_form op_head same view_as
-returns c =
-    let p = by_answer pair_answer c.in-Pair.is c.pair_after.ensures in
-    head_reads (bytes "(op") refl op_kind_head to_op p (by_answer op_kind_of c.in-Kind.is c.op_kind.ensures)
+unfolding op_head_form op_head
+returns c = headed_reached _ _ _ _ _ _ _ c.in_ok-attrs.ensures c.in_ok-kind.ensures
