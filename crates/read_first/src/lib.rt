@@ -14,7 +14,6 @@ pub fn first_line(input: &[u8]) -> Option<(u32, usize)>
     let start = Cursor { text: input, at: 0 };
     let a = start.word(b"(first")?;
     let (n, b) = one(a)?;
-    let c = b.word(b"
-")?;
+    let c = b.word(b"\n")?;
     Some((n, c.at))
 }
