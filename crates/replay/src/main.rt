@@ -43,14 +43,15 @@ fn step<R: Read, W: Write>(
     ensures rooms { (length text.new ≡ length text.old) × (length buffer.new ≡ 65536) }
     ensures turn { IfOk result (λ next. TurnsWell (W.contents writer.old) (W.contents writer.new) (R.remaining reader.old) (R.remaining reader.new) buffer.old text.old state buffer.new text.new next) }
 {
-    if state.from < state.till {
-        let next = taken(&buffer[..state.till], text, state);
+    let till = state.till;
+    if state.from < till {
+        let next = taken(&buffer[..till], text, state);
         return run(writer, text, next);
     }
     refilled(reader, buffer, state)
 }
 
-// A proved loop has to end, so it has a number of turns that no run uses up.
+// A proved loop has to end, so it counts its turns down, from a number that no run uses up.
 fn all<R: Read, W: Write>(
     reader: &mut R,
     writer: &mut W,
@@ -60,12 +61,11 @@ fn all<R: Read, W: Write>(
     requires { length buffer.old ≡ 65536 }
     ensures printed { OnOk result (IfSome (R.remaining reader.old) (λ batch. line_room + input_room + length end_mark ≤ length text.old → length batch < 2 ^ 63 → Appends (W.contents writer.old) (W.contents writer.new) (batch_bytes batch))) }
 {
+    let mut turns = u64::MAX;
     let mut state = read_cases::start();
-    for _ in 0..u64::MAX {
-        if !state.more {
-            break;
-        }
+    while turns > 0 && state.more {
         state = step(reader, writer, buffer, text, state)?;
+        turns -= 1;
     }
     Ok(())
 }
