@@ -2,7 +2,7 @@
 // a pass over the visited points for each kind of name.
 #![tactic(auto)]
 
-ghost use Rattle.std.specs.Prelude.{◌≡◌, ◌+◌, ◌≤◌, ◌<◌, length};
+ghost use Rattle.std.specs.Prelude.{◌≡◌, ◌+◌, ◌≤◌, length};
 ghost use Rattle.lifting.specs.Limits.{highest_id};
 ghost use Rattle.func.specs.Decode.{func_of};
 ghost use Rattle.work.specs.Layout.{ids_at, ids_end};
