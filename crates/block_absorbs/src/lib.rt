@@ -11,70 +11,73 @@ ghost use Rattle.terminators.specs.Visited.{Visited};
 ghost use Rattle.block_uses.specs.Uses.{Counted};
 ghost use Rattle.block_absorbs.specs.Absorbs.{Beyond, AbsorbWords, absorbed, absorbs, alone_word, absorb_word, joinable, stands, status_word};
 
+use func_look::Function;
+use term_kinds::visits::Visits;
 use term_labels::{phi_count, sole_target};
 use work::{ABSORBS, POINTS, STATUSES, USES, number, word};
 
-// The word of the point at i where it is absorbed by none: it starts a block if it is used. A word, and no Option, since the table holds it as it is.
-#[tactic(auto, using(crate::proofs::AbsorbPass::number_small))]
-fn alone(func: &[u32], work: &[u32], m: usize, i: usize) -> u32
-    requires visited { Visited func.now work.now m }
-    requires counted { Counted (func_of func.now) work.now }
-    requires i_lt_m { i < m }
-    ensures { result ≡ alone_word (func_of func.now) i }
-{
-    let q = number(work, POINTS, i);
-    if word(work, USES, q) == 0 {
-        0
-    } else {
-        (q + 1) as u32
-    }
+// Visited points of which the work slice says how often each is used.
+#[derive(Clone, Copy)]
+struct Used<'a> {
+    visits: Visits<'a>,
+    ghost counted: { Counted (func_of visits.func.now) visits.work.now },
 }
 
-// The word of the point at i, which the one before it absorbs or not.
-#[tactic(auto, using(crate::proofs::AbsorbPass::status_before, crate::proofs::AbsorbPass::status_new))]
-fn status(func: &[u32], work: &[u32], m: usize, i: usize, joined: bool) -> u32
-    requires visited { Visited func.now work.now m }
-    requires counted { Counted (func_of func.now) work.now }
-    requires absorb_words { AbsorbWords (func_of func.now) i work.now }
-    requires i_lt_m { (i < m) × (joined ≡ absorbed (func_of func.now) i) }
-    ensures { result ≡ status_word (stands (func_of func.now) i) (point_at (func_of func.now) i) }
-{
-    if joined {
-        word(work, STATUSES, i - 1)
-    } else {
-        alone(func, work, m, i)
+impl Used<'_> {
+    // The word of the point at i where it is absorbed by none: it starts a block if it is used. A word, and no Option, since the table holds it as it is.
+    #[tactic(auto, using(terminators::specs::Plain::visited_plain, crate::proofs::AbsorbPass::number_small))]
+    fn alone(&self, i: usize) -> u32
+        requires i_in_bounds { i < self.now.visits.count }
+        ensures { result ≡ alone_word (func_of self.now.visits.func.now) i }
+    {
+        let q = number(self.visits.work, POINTS, i);
+        if word(self.visits.work, USES, q) == 0 {
+            0
+        } else {
+            (q + 1) as u32
+        }
     }
-}
 
-// The point at k has number t, one use and no phis.
-#[tactic(auto, using(crate::proofs::AbsorbPass::number_small, crate::proofs::AbsorbPass::join_uses, crate::proofs::AbsorbPass::join_all))]
-fn joins(func: &[u32], work: &[u32], m: usize, k: usize, t: usize) -> bool
-    requires visited { Visited func.now work.now m }
-    requires counted { Counted (func_of func.now) work.now }
-    requires k_lt_m { k < m }
-    ensures { result ≡ joinable (func_of func.now) k t }
-{
-    let q = number(work, POINTS, k);
-    if t != q {
-        return false;
+    // The word of the point at i, which the one before it absorbs or not.
+    #[tactic(auto, using(terminators::specs::Plain::visited_plain, crate::proofs::AbsorbPass::status_before, crate::proofs::AbsorbPass::status_new))]
+    fn status(&self, i: usize, joined: bool) -> u32
+        requires absorb_words { AbsorbWords (func_of self.now.visits.func.now) i self.now.visits.work.now }
+        requires i_in_bounds { (i < self.now.visits.count) × (joined ≡ absorbed (func_of self.now.visits.func.now) i) }
+        ensures { result ≡ status_word (stands (func_of self.now.visits.func.now) i) (point_at (func_of self.now.visits.func.now) i) }
+    {
+        if joined {
+            word(self.visits.work, STATUSES, i - 1)
+        } else {
+            self.alone(i)
+        }
     }
-    word(work, USES, q) == 1 && phi_count(func, work, m, k) == 0
-}
 
-// The point at i absorbs the next one.
-#[tactic(auto, using(crate::proofs::AbsorbPass::absorb_end, crate::proofs::AbsorbPass::absorb_none))]
-fn absorbs_next(func: &[u32], work: &[u32], m: usize, i: usize) -> bool
-    requires visited { Visited func.now work.now m }
-    requires counted { Counted (func_of func.now) work.now }
-    requires i_lt_m { i < m }
-    ensures { result ≡ absorbs (func_of func.now) i }
-{
-    if i + 1 == m {
-        return false;
+    // The point at k has number t, one use and no phis.
+    #[tactic(auto, using(terminators::specs::Plain::visited_plain, crate::proofs::AbsorbPass::number_small, crate::proofs::AbsorbPass::join_uses, crate::proofs::AbsorbPass::join_all))]
+    fn joins(&self, k: usize, t: usize) -> bool
+        requires k_in_bounds { k < self.now.visits.count }
+        ensures { result ≡ joinable (func_of self.now.visits.func.now) k t }
+    {
+        let q = number(self.visits.work, POINTS, k);
+        if t != q {
+            return false;
+        }
+        word(self.visits.work, USES, q) == 1 && phi_count(&self.visits, k) == 0
     }
-    match sole_target(func, work, m, i) {
-        Some(t) => joins(func, work, m, i + 1, t),
-        None => false,
+
+    // The point at i absorbs the next one.
+    #[tactic(auto, using(terminators::specs::Plain::visited_plain, crate::proofs::AbsorbPass::absorb_end, crate::proofs::AbsorbPass::absorb_none))]
+    fn absorbs_next(&self, i: usize) -> bool
+        requires i_in_bounds { i < self.now.visits.count }
+        ensures { result ≡ absorbs (func_of self.now.visits.func.now) i }
+    {
+        if i + 1 == self.visits.count {
+            return false;
+        }
+        match sole_target(&self.visits, i) {
+            Some(t) => self.joins(i + 1, t),
+            None => false,
+        }
     }
 }
 
@@ -89,8 +92,7 @@ fn put(work: &mut [u32], i: usize, s: u32, b: bool)
 }
 
 // The words of all positions stand.
-
-pub fn absorb(func: &[u32], work: &mut [u32], m: usize)
+pub fn absorb(func: &Function, work: &mut [u32], m: usize)
     requires visited { Visited func.now work.old m }
     requires counted { Counted (func_of func.now) work.old }
     ensures absorb_words { AbsorbWords (func_of func.now) m work.new }
@@ -102,8 +104,14 @@ pub fn absorb(func: &[u32], work: &mut [u32], m: usize)
 {
     let mut joined = false;
     for i in 0..m {
-        let s = status(func, work, m, i, joined);
-        joined = absorbs_next(func, work, m, i);
+        let visits = Visits {
+            func: &*func,
+            work,
+            count: m,
+        };
+        let used = Used { visits };
+        let s = used.status(i, joined);
+        joined = used.absorbs_next(i);
         put(work, i, s, joined);
     }
 }

@@ -15,25 +15,81 @@ ghost use Rattle.walk_roots.specs.Visit.{last_roots, RootsLow};
 ghost use Rattle.check_control.specs.Loops.{target_fits, line_fits, kind_test};
 
 use func::CtrlKind;
-use func_look::{
-    ctrl_in_count, ctrl_kind, ctrl_region, ctrl_total, entry_count, entry_region, target,
-    target_count,
-};
+use func_look::Function;
 use walk_roots::tables::{index, mark_nodes};
 use walk_roots::walk::order;
 use work::{CHILDREN, LINES, ROOTS_END};
 
-// Region r is no child.
-fn is_root(func: &[u32], work: &[u32], r: usize) -> bool
-    requires regions_marked { RegionsMarked children_at (child_list (func_of func.now)) work.now }
-    requires r_bound { (r < 128) × (tables_end ≤ length work.now) }
-    ensures { result ≡ is_root (func_of func.now) r }
-{
-    work[CHILDREN + r] == 0
+// A function whose lists name its regions, and a work slice in which those that are children are marked.
+#[derive(Clone, Copy)]
+struct Marked<'a> {
+    func: &'a Function<'a>,
+    work: &'a [u32],
+    ghost named: { RegionsNamed (func_of func.now) },
+    ghost marked: { RegionsMarked children_at (child_list (func_of func.now)) work.now },
+    ghost whole: { tables_end ≤ length work.now },
+}
+
+impl Marked<'_> {
+    // Region r is no child.
+    fn is_root(&self, r: usize) -> bool
+        requires { r < 128 }
+        ensures { result ≡ is_root (func_of self.now.func.now) r }
+    {
+        self.work[CHILDREN + r] == 0
+    }
+
+    // Region r can be a target.
+    fn target_fits(&self, r: usize) -> bool
+        requires { r < 128 }
+        ensures { result ≡ target_fits (func_of self.now.func.now) r }
+    {
+        0 < r && self.is_root(r)
+    }
+
+    // The targets of line c fit.
+    fn targets_fit(&self, c: usize) -> bool
+        requires { c < length (func_of self.now.func.now).ctrls }
+        ensures { result ≡ every (target_fits (func_of self.now.func.now)) (ctrl_line_of (func_of self.now.func.now) c).1.to }
+    {
+        let k = self.func.target_count(c);
+        (0..k).all(|i| self.target_fits(self.func.target(c, i)))
+    }
+
+    // What line c says of its way out fits.
+    fn ctrl_fits(&self, c: usize) -> bool
+        requires { c < length (func_of self.now.func.now).ctrls }
+        ensures { result ≡ ctrl_fits (func_of self.now.func.now) (ctrl_line_of (func_of self.now.func.now) c).1 }
+    {
+        self.targets_fit(c)
+            && entries_distinct(self.func, c)
+            && entries_fit(self.func, c)
+            && kind_fits(
+                self.func.ctrl_kind(c),
+                self.func.ctrl_in_count(c),
+                self.func.target_count(c),
+            )
+    }
+
+    // Line c fits, and its region is no child.
+    fn line_fits(&self, c: usize) -> bool
+        requires { c < length (func_of self.now.func.now).ctrls }
+        ensures { result ≡ line_fits (func_of self.now.func.now) (ctrl_line_of (func_of self.now.func.now) c) }
+    {
+        self.is_root(self.func.ctrl_region(c)) && self.ctrl_fits(c)
+    }
+
+    // Each line does.
+    fn lines_fit(&self) -> bool
+        ensures { result ≡ every (line_fits (func_of self.now.func.now)) (func_of self.now.func.now).ctrls }
+    {
+        let k = self.func.ctrl_total();
+        (0..k).all(|i| self.line_fits(i))
+    }
 }
 
 // Region r has a ctrl line.
-fn has_line(func: &[u32], work: &[u32], r: usize) -> bool
+fn has_line(func: &Function, work: &[u32], r: usize) -> bool
     requires indexed { Indexed (func_of func.now) work.now }
     requires r_bound { (r < 128) × (tables_end ≤ length work.now) }
     ensures { result ≡ within r (keys (func_of func.now).ctrls) }
@@ -42,64 +98,39 @@ fn has_line(func: &[u32], work: &[u32], r: usize) -> bool
 }
 
 // Region r is a target of line c.
-fn is_target(func: &[u32], c: usize, r: usize) -> bool
-    requires tables { Tables func.now }
+fn is_target(func: &Function, c: usize, r: usize) -> bool
     requires c_in_bounds { c < length (func_of func.now).ctrls }
     ensures { result ≡ within r (ctrl_line_of (func_of func.now) c).1.to }
 {
-    let k = target_count(func, c);
-    (0..k).any(|i| target(func, c, i) == r)
-}
-
-// Region r can be a target.
-fn target_fits(func: &[u32], work: &[u32], r: usize) -> bool
-    requires regions_marked { RegionsMarked children_at (child_list (func_of func.now)) work.now }
-    requires r_bound { (r < 128) × (tables_end ≤ length work.now) }
-    ensures { result ≡ target_fits (func_of func.now) r }
-{
-    0 < r && is_root(func, work, r)
-}
-
-// The targets of line c fit.
-fn targets_fit(func: &[u32], work: &[u32], c: usize) -> bool
-    requires tables { Tables func.now }
-    requires c_in_bounds { c < length (func_of func.now).ctrls }
-    requires regions_named { RegionsNamed (func_of func.now) }
-    requires regions_marked { RegionsMarked children_at (child_list (func_of func.now)) work.now × (tables_end ≤ length work.now) }
-    ensures { result ≡ every (target_fits (func_of func.now)) (ctrl_line_of (func_of func.now) c).1.to }
-{
-    let k = target_count(func, c);
-    (0..k).all(|i| target_fits(func, work, target(func, c, i)))
+    let k = func.target_count(c);
+    (0..k).any(|i| func.target(c, i) == r)
 }
 
 // An entry of line c from entry s on is region r's.
-fn entry_after(func: &[u32], c: usize, s: usize, r: usize) -> bool
-    requires tables { Tables func.now }
+fn entry_after(func: &Function, c: usize, s: usize, r: usize) -> bool
     requires c_in_bounds { c < length (func_of func.now).ctrls }
     ensures { result ≡ within r (keys (drop s (ctrl_line_of (func_of func.now) c).1.vals)) }
 {
-    let k = entry_count(func, c);
-    (s..k).any(|i| entry_region(func, c, i) == r)
+    let k = func.entry_count(c);
+    (s..k).any(|i| func.entry_region(c, i) == r)
 }
 
 // No region has two entries of line c.
-fn entries_distinct(func: &[u32], c: usize) -> bool
-    requires tables { Tables func.now }
+fn entries_distinct(func: &Function, c: usize) -> bool
     requires c_in_bounds { c < length (func_of func.now).ctrls }
     ensures { result ≡ distinct (keys (ctrl_line_of (func_of func.now) c).1.vals) }
 {
-    let k = entry_count(func, c);
-    (0..k).all(|i| !entry_after(func, c, i + 1, entry_region(func, c, i)))
+    let k = func.entry_count(c);
+    (0..k).all(|i| !entry_after(func, c, i + 1, func.entry_region(c, i)))
 }
 
 // The entries of line c are its targets'.
-fn entries_fit(func: &[u32], c: usize) -> bool
-    requires tables { Tables func.now }
+fn entries_fit(func: &Function, c: usize) -> bool
     requires c_in_bounds { c < length (func_of func.now).ctrls }
     ensures { result ≡ every (λ r. within r (ctrl_line_of (func_of func.now) c).1.to) (keys (ctrl_line_of (func_of func.now) c).1.vals) }
 {
-    let k = entry_count(func, c);
-    (0..k).all(|i| is_target(func, c, entry_region(func, c, i)))
+    let k = func.entry_count(c);
+    (0..k).all(|i| is_target(func, c, func.entry_region(c, i)))
 }
 
 // A line of a kind can have so many inputs and targets.
@@ -116,48 +147,8 @@ fn kind_fits(kind: CtrlKind, ins: usize, to: usize) -> bool
     }
 }
 
-// What line c says of its way out fits.
-fn ctrl_fits(func: &[u32], work: &[u32], c: usize) -> bool
-    requires tables { Tables func.now }
-    requires c_in_bounds { c < length (func_of func.now).ctrls }
-    requires regions_named { RegionsNamed (func_of func.now) }
-    requires regions_marked { RegionsMarked children_at (child_list (func_of func.now)) work.now × (tables_end ≤ length work.now) }
-    ensures { result ≡ ctrl_fits (func_of func.now) (ctrl_line_of (func_of func.now) c).1 }
-{
-    targets_fit(func, work, c)
-        && entries_distinct(func, c)
-        && entries_fit(func, c)
-        && kind_fits(
-            ctrl_kind(func, c),
-            ctrl_in_count(func, c),
-            target_count(func, c),
-        )
-}
-
-// Line c fits, and its region is no child.
-fn line_fits(func: &[u32], work: &[u32], c: usize) -> bool
-    requires tables { Tables func.now }
-    requires c_in_bounds { c < length (func_of func.now).ctrls }
-    requires regions_named { RegionsNamed (func_of func.now) }
-    requires regions_marked { RegionsMarked children_at (child_list (func_of func.now)) work.now × (tables_end ≤ length work.now) }
-    ensures { result ≡ line_fits (func_of func.now) (ctrl_line_of (func_of func.now) c) }
-{
-    is_root(func, work, ctrl_region(func, c)) && ctrl_fits(func, work, c)
-}
-
-// Each line does.
-fn lines_fit(func: &[u32], work: &[u32]) -> bool
-    requires tables { Tables func.now }
-    requires regions_named { RegionsNamed (func_of func.now) }
-    requires regions_marked { RegionsMarked children_at (child_list (func_of func.now)) work.now × (tables_end ≤ length work.now) }
-    ensures { result ≡ every (line_fits (func_of func.now)) (func_of func.now).ctrls }
-{
-    let k = ctrl_total(func);
-    (0..k).all(|i| line_fits(func, work, i))
-}
-
 // Each of the n roots at the end of their table has a ctrl line.
-fn have_ctrls(func: &[u32], work: &[u32], n: usize) -> bool
+fn have_ctrls(func: &Function, work: &[u32], n: usize) -> bool
     requires indexed { Indexed (func_of func.now) work.now }
     requires roots_low { RootsLow (func_of func.now) work.now n × (length (func_of func.now).regions ≤ 128) }
     requires n_bound { (n ≤ 128) × (tables_end ≤ length work.now) }
@@ -167,8 +158,7 @@ fn have_ctrls(func: &[u32], work: &[u32], n: usize) -> bool
 }
 
 // The text in the function slice passes refusal 7. Only the tables of the control-flow walk are written.
-pub fn control(func: &[u32], work: &mut [u32]) -> bool
-    requires tables { Tables func.now }
+pub fn control(func: &Function, work: &mut [u32]) -> bool
     requires regions_named { RegionsNamed (func_of func.now) }
     requires work_need_in_bounds { work_need ≤ length work.old }
     ensures { (result ≡ control_fits (func_of func.now)) × (length work.new ≡ length work.old) × Aside 0 tables_end work.old work.new }
@@ -177,10 +167,11 @@ pub fn control(func: &[u32], work: &mut [u32]) -> bool
         return false;
     }
     mark_nodes(func, work);
-    if !lines_fit(func, work) {
+    let marked = Marked { func: &*func, work };
+    if !marked.lines_fit() {
         return false;
     }
-    if ctrl_total(func) == 0 {
+    if func.ctrl_total() == 0 {
         return true;
     }
     let n = order(func, work);

@@ -8,100 +8,105 @@ ghost use Rattle.func.specs.Store.{count};
 ghost use Rattle.check_counts.specs.Test.{child_count_in, child_in, kind_in, ends_test, case_test, body_test, cases_test, node_test, nodes_test, func_test, counts_test, CountsSafe};
 
 use func::NodeKind;
-use func_pools::{CTRLS, NODES, PARAMS, REGIONS, count};
-use func_rows::{
-    row_child, row_children, row_ins, row_kind, row_node, row_nodes, row_outs, row_results,
-    row_values,
-};
+use func_pools::{Pool, count};
+use func_rows::{RowList, row_count, row_element, row_kind};
 
-// The last node of region c is an exit.
-fn ends_in_exit(func: &[u32], c: usize) -> bool
-    requires counts_safe { CountsSafe func.now }
-    requires c_bound { c < count regions func.now }
-    ensures { result ≡ ends_test func.now c }
-{
-    let m = row_nodes(func, c);
-    if m == 0 {
-        return false;
+// The slice of such a text.
+#[derive(Clone, Copy)]
+struct Counted<'a> {
+    words: &'a [u32],
+    ghost safe: { CountsSafe words.now },
+}
+
+impl<'a> Counted<'a> {
+    // The last node of region c is an exit.
+    fn ends_in_exit(&self, c: usize) -> bool
+        requires { c < count regions self.now.words.now }
+        ensures { result ≡ ends_test self.now.words.now c }
+    {
+        let m = row_count(self.words, RowList::RegionNodes, c);
+        if m == 0 {
+            return false;
+        }
+        let n = row_element(self.words, RowList::RegionNodes, c, m - 1);
+        row_kind(self.words, n) == NodeKind::Exit
     }
-    let n = row_node(func, c, m - 1);
-    row_kind(func, n) == NodeKind::Exit
-}
 
-// Case i of select n has no inputs, and as many outputs as the node, or none where its last node is an exit.
-fn case_fits(func: &[u32], n: usize, i: usize) -> bool
-    requires counts_safe { CountsSafe func.now }
-    requires n_bound { (n < count nodes func.now) × (i < child_count_in func.now n) }
-    ensures { result ≡ case_test func.now n (child_in func.now n i) }
-{
-    let c = row_child(func, n, i);
-    let r = row_results(func, c);
-    row_ins(func, c) == 0 && (r == row_outs(func, n) || r == 0 && ends_in_exit(func, c))
-}
-
-// All cases do.
-fn cases_fit(func: &[u32], n: usize) -> bool
-    requires counts_safe { CountsSafe func.now }
-    requires n_bound { n < count nodes func.now }
-    ensures { result ≡ cases_test func.now n }
-{
-    let m = row_children(func, n);
-    (0..m).all(|i| case_fits(func, n, i))
-}
-
-// Loop n has a value for its condition and one for each input of its body, which has as many outputs as inputs.
-fn loop_fits(func: &[u32], n: usize) -> bool
-    requires counts_safe { CountsSafe func.now }
-    requires n_bound { (n < count nodes func.now) × (kind_in func.now n ≡ NodeKind.Loop) }
-    ensures { result ≡ body_test func.now n (child_in func.now n 0) }
-{
-    let c = row_child(func, n, 0);
-    let ins = row_ins(func, c);
-    row_values(func, n) == ins + 1 && row_results(func, c) == ins
-}
-
-// Node n fits by its kind.
-fn node_fits(func: &[u32], n: usize) -> bool
-    requires counts_safe { CountsSafe func.now }
-    requires n_bound { n < count nodes func.now }
-    ensures { result ≡ node_test func.now n }
-{
-    match row_kind(func, n) {
-        NodeKind::Block => true,
-        NodeKind::SelectBool => row_children(func, n) == 2 && cases_fit(func, n),
-        NodeKind::SelectInst => 0 < row_children(func, n) && cases_fit(func, n),
-        NodeKind::Loop => loop_fits(func, n),
-        NodeKind::Exit => true,
+    // Case i of select n has no inputs, and as many outputs as the node, or none where its last node is an exit.
+    fn case_fits(&self, n: usize, i: usize) -> bool
+        requires { (n < count nodes self.now.words.now) × (i < child_count_in self.now.words.now n) }
+        ensures { result ≡ case_test self.now.words.now n (child_in self.now.words.now n i) }
+    {
+        let c = row_element(self.words, RowList::NodeChildren, n, i);
+        let r = row_count(self.words, RowList::RegionResults, c);
+        row_count(self.words, RowList::RegionIns, c) == 0
+            && (r == row_count(self.words, RowList::NodeOuts, n) || r == 0 && self.ends_in_exit(c))
     }
-}
 
-// All nodes do.
-fn nodes_fit(func: &[u32]) -> bool
-    requires { CountsSafe func.now }
-    ensures { result ≡ nodes_test func.now }
-{
-    let m = count(func, NODES) as usize;
-    (0..m).all(|n| node_fits(func, n))
-}
+    // All cases do.
+    fn cases_fit(&self, n: usize) -> bool
+        requires { n < count nodes self.now.words.now }
+        ensures { result ≡ cases_test self.now.words.now n }
+    {
+        let m = row_count(self.words, RowList::NodeChildren, n);
+        (0..m).all(|i| self.case_fits(n, i))
+    }
 
-// The body has the parameters for inputs and one output at most, none with ctrl lines. An imported function has no body.
-#[tactic(auto, unfolding(crate::specs::Test::func_test))]
-fn body_fits(func: &[u32]) -> bool
-    requires { CountsSafe func.now }
-    ensures { result ≡ func_test func.now }
-{
-    if count(func, REGIONS) == 0 {
-        return true;
+    // Loop n has a value for its condition and one for each input of its body, which has as many outputs as inputs.
+    fn loop_fits(&self, n: usize) -> bool
+        requires { (n < count nodes self.now.words.now) × (kind_in self.now.words.now n ≡ NodeKind.Loop) }
+        ensures { result ≡ body_test self.now.words.now n (child_in self.now.words.now n 0) }
+    {
+        let c = row_element(self.words, RowList::NodeChildren, n, 0);
+        let ins = row_count(self.words, RowList::RegionIns, c);
+        row_count(self.words, RowList::NodeValues, n) == ins + 1
+            && row_count(self.words, RowList::RegionResults, c) == ins
     }
-    let p = count(func, PARAMS) as usize;
-    if row_ins(func, 0) != p {
-        return false;
+
+    // Node n fits by its kind.
+    fn node_fits(&self, n: usize) -> bool
+        requires { n < count nodes self.now.words.now }
+        ensures { result ≡ node_test self.now.words.now n }
+    {
+        match row_kind(self.words, n) {
+            NodeKind::Block => true,
+            NodeKind::SelectBool => {
+                row_count(self.words, RowList::NodeChildren, n) == 2 && self.cases_fit(n)
+            }
+            NodeKind::SelectInst => {
+                0 < row_count(self.words, RowList::NodeChildren, n) && self.cases_fit(n)
+            }
+            NodeKind::Loop => self.loop_fits(n),
+            NodeKind::Exit => true,
+        }
     }
-    let n = row_results(func, 0);
-    if count(func, CTRLS) == 0 {
-        return n <= 1;
+
+    // All nodes do.
+    fn nodes_fit(&self) -> bool
+        ensures { result ≡ nodes_test self.now.words.now }
+    {
+        let m = count(self.words, Pool::Nodes) as usize;
+        (0..m).all(|n| self.node_fits(n))
     }
-    n == 0
+
+    // The body has the parameters for inputs and one output at most, none with ctrl lines. An imported function has no body.
+    #[tactic(auto, unfolding(crate::specs::Test::func_test))]
+    fn body_fits(&self) -> bool
+        ensures { result ≡ func_test self.now.words.now }
+    {
+        if count(self.words, Pool::Regions) == 0 {
+            return true;
+        }
+        let p = count(self.words, Pool::Params) as usize;
+        if row_count(self.words, RowList::RegionIns, 0) != p {
+            return false;
+        }
+        let n = row_count(self.words, RowList::RegionResults, 0);
+        if count(self.words, Pool::Ctrls) == 0 {
+            return n <= 1;
+        }
+        n == 0
+    }
 }
 
 // The text in the function slice passes refusal 6, but for its ctrl lines.
@@ -110,5 +115,6 @@ pub fn counts(func: &[u32]) -> bool
     requires { CountsSafe func.now }
     ensures { result ≡ counts_test func.now }
 {
-    body_fits(func) && nodes_fit(func)
+    let counted = Counted { words: func };
+    counted.body_fits() && counted.nodes_fit()
 }

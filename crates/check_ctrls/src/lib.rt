@@ -6,7 +6,6 @@ ghost use Rattle.lifting.specs.Limits.{max_bytes};
 ghost use Rattle.check_ctrls.specs.Judged.{opcode_in, judged_with};
 
 use check_insts::opcode_fits;
-use check_limits::both;
 use read_insts::{Control, Selection};
 
 // The lines so far: how many, and whether the opcodes of their INSTs and their edges fit.
@@ -17,7 +16,7 @@ pub struct Judged {
     pub edges: bool,
 }
 
-// K's opcode, 0 without an INST: 0 fits.
+// K's opcode as its row has it: 0 stands there without an INST, and fits.
 pub fn opcode_in(kind: Control) -> u32
     ensures { result ≡ opcode_in kind }
 {
@@ -41,7 +40,7 @@ pub fn judge(seen: Judged, kind: Control, edges: bool) -> Judged
     let fits = opcode_fits(opcode_in(kind));
     Judged {
         line: seen.line + 1,
-        opcodes: both(seen.opcodes, fits),
-        edges: both(seen.edges, edges),
+        opcodes: seen.opcodes && fits,
+        edges: seen.edges && edges,
     }
 }

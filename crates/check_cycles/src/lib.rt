@@ -10,26 +10,32 @@ ghost use Rattle.check_marks.specs.Marks.{mark_all, parent_table};
 ghost use Rattle.check_cycles.specs.Stamps.{parent, Stamped, Climbed};
 
 use check_marks::mark_run;
-use func_pools::{CHILD_REFS, REGIONS, count};
-use func_rows::{row_child_at, row_children, row_node, row_nodes};
+use func_pools::{Pool, count};
+use func_rows::{RowList, row_at, row_count, row_element};
 use work::{STAMPS, clear};
 
+// A function slice in which the lists of nodes and of children are there whole.
+#[derive(Clone, Copy)]
+pub struct Listed<'a> {
+    pub words: &'a [u32],
+    pub ghost whole: { ListsWhole words.now },
+}
+
 // Region r is the parent of its nodes' children: their words are r + 1.
-fn adopt(func: &[u32], r: usize, work: &mut [u32])
-    requires lists_whole { ListsWhole func.now }
-    requires r_bound { (r < count regions func.now) × (work_need ≤ length work.old) }
-    ensures work_after { work.new ≡ mark_all (kids func.now r) (r + 1) work.old }
+fn adopt(func: &Listed, r: usize, work: &mut [u32])
+    requires { (r < count regions func.now.words.now) × (work_need ≤ length work.old) }
+    ensures work_after { work.new ≡ mark_all (kids func.now.words.now r) (r + 1) work.old }
     ensures work_len_unchanged { length work.new ≡ length work.old }
 {
     let v = (r + 1) as u32;
-    let n = row_nodes(func, r);
+    let n = row_count(func.words, RowList::RegionNodes, r);
     for i in 0..n {
-        let x = row_node(func, r, i);
+        let x = row_element(func.words, RowList::RegionNodes, r, i);
         mark_run(
-            func,
-            CHILD_REFS,
-            row_child_at(func, x, 0),
-            row_children(func, x),
+            func.words,
+            Pool::ChildRefs,
+            row_at(func.words, RowList::NodeChildren, x, 0),
+            row_count(func.words, RowList::NodeChildren, x),
             v,
             work,
         );
@@ -37,10 +43,9 @@ fn adopt(func: &[u32], r: usize, work: &mut [u32])
 }
 
 // The table of parents, where the work slice was clear.
-fn adopt_all(func: &[u32], n: usize, work: &mut [u32])
-    requires lists_whole { ListsWhole func.now }
-    requires n_value { (n ≡ count regions func.now) × (work_need ≤ length work.old) }
-    ensures work_after { work.new ≡ parent_table func.now n work.old }
+fn adopt_all(func: &Listed, n: usize, work: &mut [u32])
+    requires { (n ≡ count regions func.now.words.now) × (work_need ≤ length work.old) }
+    ensures work_after { work.new ≡ parent_table func.now.words.now n work.old }
     ensures work_len_unchanged { length work.new ≡ length work.old }
 {
     for r in 0..n {
@@ -94,13 +99,12 @@ fn none_around(work: &mut [u32], n: usize) -> bool
 }
 
 // The same, of the regions in the function slice.
-pub fn no_cycle(func: &[u32], work: &mut [u32]) -> bool
-    requires lists_whole { ListsWhole func.now }
-    requires work_need_in_bounds { work_need ≤ length work.old }
-    ensures value { result ≡ cycle_test func.now }
+pub fn no_cycle(func: &Listed, work: &mut [u32]) -> bool
+    requires { work_need ≤ length work.old }
+    ensures value { result ≡ cycle_test func.now.words.now }
     ensures work_len_unchanged { length work.new ≡ length work.old }
 {
-    let n = count(func, REGIONS) as usize;
+    let n = count(func.words, Pool::Regions) as usize;
     clear(work, 0, n);
     adopt_all(func, n, work);
     clear_stamps(work, n);

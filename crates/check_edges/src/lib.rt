@@ -9,9 +9,9 @@ ghost use Rattle.func.specs.Store.{count};
 ghost use Rattle.work.specs.Layout.{work_need};
 ghost use Rattle.check_edges.specs.Edges.{ins_of, mark_entry, target_entered, targets_fit};
 
-use func_look::target_ref;
-use func_pools::{REGIONS, TARGETS, VALUES, count};
-use func_rows::row_ins;
+use func_look::reference;
+use func_pools::{Pool, count};
+use func_rows::{RowList, row_count};
 use refusals::limits::{MAX_REGIONS, MAX_TARGETS};
 use work::{ENTERED, word};
 
@@ -21,11 +21,11 @@ fn ins_of(func: &[u32], r: usize) -> usize
     requires { func_need ≤ length func.now }
     ensures { (result ≡ ins_of func.now r) × (result ≤ 4095) }
 {
-    let n = count(func, REGIONS);
+    let n = count(func, Pool::Regions);
     if MAX_REGIONS < n || n as usize <= r {
         return 0;
     }
-    row_ins(func, r)
+    row_count(func, RowList::RegionIns, r)
 }
 
 // Region r has an entry in this line.
@@ -46,7 +46,7 @@ pub fn values_fit(func: &[u32], n: u32, r: u32) -> bool
     ensures { result ≡ eqb (n + ins_of func.now r) (count values func.now) }
 {
     let ins = ins_of(func, r as usize);
-    n as usize + ins == count(func, VALUES) as usize
+    n as usize + ins == count(func, Pool::Values) as usize
 }
 
 // Target i of all has an entry in this line, or its region has no inputs.
@@ -56,7 +56,7 @@ fn target_fits(func: &[u32], work: &[u32], line: u32, i: usize) -> bool
     requires func_bound { (count targets func.now ≤ max_targets) × (i < count targets func.now) }
     ensures { result ≡ target_entered func.now work.now line i }
 {
-    let t = target_ref(func, i);
+    let t = reference(func, Pool::Targets, i);
     ins_of(func, t) == 0 || word(work, ENTERED, t) == line
 }
 
@@ -66,6 +66,6 @@ pub fn targets_fit(func: &[u32], work: &[u32], line: u32, from: u32) -> bool
     requires { (func_need ≤ length func.now) × (work_need ≤ length work.now) }
     ensures { result ≡ targets_fit func.now work.now line from }
 {
-    let n = count(func, TARGETS);
+    let n = count(func, Pool::Targets);
     MAX_TARGETS < n || (from as usize..n as usize).all(|i| target_fits(func, work, line, i))
 }

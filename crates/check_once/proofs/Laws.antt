@@ -7,7 +7,7 @@ use native.Mathlib.Omega.{arith}
 use lib.ListN.{length, get_or, set}
 use borrow.Author.Tests.{eq-eqb, lt-ltb}
 use Rattle.general_laws.specs.Lists.{distinct}
-use Rattle.func.specs.Layout.{child_refs, regions, nodes, ctrls}
+use Rattle.func.specs.Layout.{child_refs, regions, ctrls}
 use Rattle.func.specs.Store.{count}
 use Rattle.func.specs.Tables.{word}
 use Rattle.check_marks.specs.Once.{Below}

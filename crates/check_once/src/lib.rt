@@ -2,21 +2,22 @@
 // cannot pass; then marks in the work slice tell whether a reference stands twice.
 #![tactic(auto)]
 
-ghost use Rattle.std.specs.Prelude.{◌≡◌, ◌+◌, ◌≤◌, ◌<◌, length};
-ghost use Rattle.func.specs.Layout.{func_need, pool_total, entry_words, entry_room, child_refs};
+ghost use Rattle.std.specs.Prelude.{◌≡◌, ◌≤◌, ◌<◌, length};
+ghost use Rattle.func.specs.Layout.{func_need, entry_words, entry_room, child_refs};
 ghost use Rattle.func.specs.Store.{count};
 ghost use Rattle.work.specs.Layout.{work_need};
+ghost use Rattle.func_pools.specs.Pools.{pool_number};
 ghost use Rattle.check_marks.specs.Test.{pool_numbers, refs, once_test, child_fit, child_test, Refs, TreeSafe};
 ghost use Rattle.check_marks.specs.Marks.{Run, fresh_marks};
 
-use func_pools::{CHILD_REFS, CTRLS, NODES, REGIONS, count};
-use func_rows::{row_child, row_children, row_ref};
+use func_pools::{Pool, count};
+use func_rows::{RowList, row_count, row_element, row_ref};
 use work::clear;
 
 // None of the first n numbers of pool k stands twice or names a marked word. Their words are marked.
-fn all_fresh(func: &[u32], k: usize, n: usize, work: &mut [u32]) -> bool
-    requires { Run k func.now 0 n (length work.old) }
-    ensures value { result ≡ fresh_marks (pool_numbers k func.now 0 n) work.old }
+fn all_fresh(func: &[u32], k: Pool, n: usize, work: &mut [u32]) -> bool
+    requires { Run (pool_number k) func.now 0 n (length work.old) }
+    ensures value { result ≡ fresh_marks (pool_numbers (pool_number k) func.now 0 n) work.old }
     ensures work_len_unchanged { length work.new ≡ length work.old }
 {
     for i in 0..n {
@@ -30,10 +31,10 @@ fn all_fresh(func: &[u32], k: usize, n: usize, work: &mut [u32]) -> bool
 }
 
 // Each line of pool p stands once in pool k.
-pub fn stands_once(func: &[u32], k: usize, p: usize, work: &mut [u32]) -> bool
+pub fn stands_once(func: &[u32], k: Pool, p: Pool, work: &mut [u32]) -> bool
     requires func_need_in_bounds { (func_need ≤ length func.now) × (work_need ≤ length work.old) }
-    requires k_lt_pool_total { (k < pool_total) × (p < pool_total) × (0 < entry_words k) × Refs k p func.now }
-    ensures value { result ≡ once_test k p func.now }
+    requires k_refers { (0 < entry_words (pool_number k)) × Refs (pool_number k) (pool_number p) func.now }
+    ensures value { result ≡ once_test (pool_number k) (pool_number p) func.now }
     ensures work_len_unchanged { length work.new ≡ length work.old }
 {
     let n = count(func, p);
@@ -44,19 +45,25 @@ pub fn stands_once(func: &[u32], k: usize, p: usize, work: &mut [u32]) -> bool
     all_fresh(func, k, n as usize, work)
 }
 
+// A function slice in which each reference names a line, and each list of nodes or children lies in its pool.
+#[derive(Clone, Copy)]
+pub struct Lined<'a> {
+    pub words: &'a [u32],
+    pub ghost safe: { TreeSafe words.now },
+}
+
 // Goes through the nodes and their child regions, up to the first region that has a parent already: its word is marked.
-fn one_parent(func: &[u32], work: &mut [u32]) -> bool
-    requires tree_safe { TreeSafe func.now }
-    requires func_bound { (count child_refs func.now ≤ entry_room child_refs) × (work_need ≤ length work.old) }
-    ensures value { result ≡ fresh_marks (refs child_refs func.now) work.old }
+fn one_parent(func: &Lined, work: &mut [u32]) -> bool
+    requires { (count child_refs func.now.words.now ≤ entry_room child_refs) × (work_need ≤ length work.old) }
+    ensures value { result ≡ fresh_marks (refs child_refs func.now.words.now) work.old }
     ensures work_len_unchanged { length work.new ≡ length work.old }
 {
-    let total = count(func, NODES) as usize;
+    let total = count(func.words, Pool::Nodes) as usize;
     let mut once = true;
     'nodes: for n in 0..total {
-        let m = row_children(func, n);
+        let m = row_count(func.words, RowList::NodeChildren, n);
         'children: for i in 0..m {
-            let c = row_child(func, n, i);
+            let c = row_element(func.words, RowList::NodeChildren, n, i);
             if work[c] == 1 {
                 once = false;
                 break 'nodes;
@@ -82,15 +89,14 @@ fn child_fit(n: u32, c: u32, k: u32) -> bool
 }
 
 // No region is child of two places, and the first of none; without ctrl lines each other one is a child.
-pub fn children_once(func: &[u32], work: &mut [u32]) -> bool
-    requires tree_safe { TreeSafe func.now }
-    requires work_need_in_bounds { work_need ≤ length work.old }
-    ensures value { result ≡ child_test func.now }
+pub fn children_once(func: &Lined, work: &mut [u32]) -> bool
+    requires { work_need ≤ length work.old }
+    ensures value { result ≡ child_test func.now.words.now }
     ensures work_len_unchanged { length work.new ≡ length work.old }
 {
-    let n = count(func, REGIONS);
-    let c = count(func, CHILD_REFS);
-    if n < c || !child_fit(n, c, count(func, CTRLS)) {
+    let n = count(func.words, Pool::Regions);
+    let c = count(func.words, Pool::ChildRefs);
+    if n < c || !child_fit(n, c, count(func.words, Pool::Ctrls)) {
         return false;
     }
     clear(work, 0, n as usize);

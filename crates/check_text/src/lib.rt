@@ -13,7 +13,8 @@ use check_limits::limits;
 use check_references::references;
 use check_targets::targets_differ;
 use check_tree::is_tree;
-use func_pools::{CTRLS, ENTRIES, count};
+use func_look::Function;
+use func_pools::{Pool, count};
 use refusals::Refusal;
 use refusals::limits::{MAX_REGIONS, MAX_TARGETS};
 
@@ -23,7 +24,7 @@ fn few(func: &[u32]) -> bool
     requires { func_need ≤ length func.now }
     ensures { result ≡ few_test func.now }
 {
-    count(func, CTRLS) <= MAX_REGIONS && count(func, ENTRIES) <= MAX_TARGETS
+    count(func, Pool::Ctrls) <= MAX_REGIONS && count(func, Pool::Entries) <= MAX_TARGETS
 }
 
 // The first refusal of 3 to 7 and 13, if there is one. `opcodes` and `edges` say whether the opcodes and the edges of ctrl lines fit, for 4 and 6: the
@@ -50,10 +51,11 @@ pub fn checks(func: &[u32], work: &mut [u32], opcodes: bool, edges: bool) -> Res
     if !few(func) {
         return Err(Refusal::Control);
     }
-    if !control(func, work) {
+    let function = Function::new(func);
+    if !control(&function, work) {
         return Err(Refusal::Control);
     }
-    if !targets_differ(func) {
+    if !targets_differ(&function) {
         return Err(Refusal::Targets);
     }
     Ok(())

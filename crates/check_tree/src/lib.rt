@@ -5,9 +5,9 @@ ghost use Rattle.std.specs.Prelude.{◌≡◌, ◌≤◌, length};
 ghost use Rattle.work.specs.Layout.{work_need};
 ghost use Rattle.check_marks.specs.Test.{tree_test, TreeSafe};
 
-use check_cycles::no_cycle;
-use check_once::{children_once, stands_once};
-use func_pools::{NODE_REFS, NODES, OP_REFS, OPS};
+use check_cycles::{Listed, no_cycle};
+use check_once::{Lined, children_once, stands_once};
+use func_pools::Pool;
 
 // The text in the function slice passes refusal 5.
 #[tactic(auto, unfolding(check_marks::specs::Test::tree_test))]
@@ -17,8 +17,8 @@ pub fn is_tree(func: &[u32], work: &mut [u32]) -> bool
     ensures value { result ≡ tree_test func.now }
     ensures work_len_unchanged { length work.new ≡ length work.old }
 {
-    stands_once(func, NODE_REFS, NODES, work)
-        && stands_once(func, OP_REFS, OPS, work)
-        && children_once(func, work)
-        && no_cycle(func, work)
+    stands_once(func, Pool::NodeRefs, Pool::Nodes, work)
+        && stands_once(func, Pool::OpRefs, Pool::Ops, work)
+        && children_once(&Lined { words: func }, work)
+        && no_cycle(&Listed { words: func }, work)
 }

@@ -27,19 +27,13 @@ pub struct Case {
 pub fn named(word: &[u8]) -> Command
     ensures { result ≡ name_of word.now }
 {
-    if word == b"lift".as_slice() {
-        return Command::Lift;
+    match word {
+        b"lift" => Command::Lift,
+        b"read" => Command::Read,
+        b"blocks" => Command::Blocks,
+        b"help" => Command::Help,
+        _ => Command::Unknown,
     }
-    if word == b"read".as_slice() {
-        return Command::Read;
-    }
-    if word == b"blocks".as_slice() {
-        return Command::Blocks;
-    }
-    if word == b"help".as_slice() {
-        return Command::Help;
-    }
-    Command::Unknown
 }
 
 // The command of a program that was started with so many arguments, its own name among them, of which this is the first behind its name.
@@ -68,12 +62,7 @@ fn find(line: &[u8], byte: u8) -> usize
     ensures place { result ≡ index_of byte line.now }
     ensures in_bounds { result ≤ length line.now }
 {
-    for (i, b) in line.iter().enumerate() {
-        if *b == byte {
-            return i;
-        }
-    }
-    line.len()
+    line.iter().position(|b| *b == byte).unwrap_or(line.len())
 }
 
 // The command that the first word of a line names.

@@ -15,41 +15,46 @@ fn edge_of(x: u32) -> Option<usize>
     (x as usize).checked_sub(1)
 }
 
-// The first edge into the point q.
-pub fn first_edge(work: &[u32], q: usize) -> Option<usize>
-    requires chained { Chained work.now }
-    requires q_bound { q < 512 }
-    ensures value { edge_word result ≡ get_or work.now (heads_at + q) 0 }
-    ensures upper_bound { edge_word result ≤ 1024 }
-{
-    edge_of(work[HEADS + q])
+// The work slice, once the edges into each point are linked.
+#[derive(Clone, Copy)]
+pub struct Chains<'a> {
+    pub work: &'a [u32],
+    ghost chained: { Chained work.now },
 }
 
-// The edge after edge e into the same point.
-pub fn next_edge(work: &[u32], e: usize) -> Option<usize>
-    requires chained { Chained work.now }
-    requires e_bound { e < 1024 }
-    ensures value { edge_word result ≡ next_at work.now e }
-    ensures e_value { chain work.now (e + 1) ≡ origin_at work.now e ∷ chain work.now (edge_word result) }
-    ensures upper_bound { edge_word result ≤ e }
-{
-    edge_of(work[NEXTS + e])
-}
+impl Chains<'_> {
+    // The first edge into the point q.
+    pub fn first(&self, q: usize) -> Option<usize>
+        requires { q < 512 }
+        ensures value { edge_word result ≡ get_or self.now.work.now (heads_at + q) 0 }
+        ensures upper_bound { edge_word result ≤ 1024 }
+    {
+        edge_of(self.work[HEADS + q])
+    }
 
-// The position of the block that edge e comes from.
-pub fn edge_position(work: &[u32], e: usize) -> usize
-    requires chained { Chained work.now }
-    requires e_bound { e < 1024 }
-    ensures { result ≡ (origin_at work.now e).0 }
-{
-    work[ORIGINS + e] as usize / 1024
-}
+    // The edge after edge e into the same point.
+    pub fn next(&self, e: usize) -> Option<usize>
+        requires { e < 1024 }
+        ensures value { edge_word result ≡ next_at self.now.work.now e }
+        ensures e_value { chain self.now.work.now (e + 1) ≡ origin_at self.now.work.now e ∷ chain self.now.work.now (edge_word result) }
+        ensures upper_bound { edge_word result ≤ e }
+    {
+        edge_of(self.work[NEXTS + e])
+    }
 
-// The number of its entry.
-pub fn edge_entry(work: &[u32], e: usize) -> usize
-    requires chained { Chained work.now }
-    requires e_bound { e < 1024 }
-    ensures { result ≡ (origin_at work.now e).1 }
-{
-    work[ORIGINS + e] as usize % 1024
+    // The position of the block that edge e comes from.
+    pub fn position(&self, e: usize) -> usize
+        requires { e < 1024 }
+        ensures { result ≡ (origin_at self.now.work.now e).0 }
+    {
+        self.work[ORIGINS + e] as usize / 1024
+    }
+
+    // The number of its entry.
+    pub fn entry(&self, e: usize) -> usize
+        requires { e < 1024 }
+        ensures { result ≡ (origin_at self.now.work.now e).1 }
+    {
+        self.work[ORIGINS + e] as usize % 1024
+    }
 }

@@ -6,16 +6,14 @@ ghost use Rattle.lifting.specs.Walk.{line_term};
 ghost use Rattle.lifting.specs.Parts.{region_of};
 ghost use Rattle.lifting.specs.Points.{region_entry};
 ghost use Rattle.func.specs.Decode.{func_of};
-ghost use Rattle.func.specs.Tables.{Tables, ctrl_line_of};
+ghost use Rattle.func.specs.Tables.{ctrl_line_of};
 ghost use Rattle.walk_points.specs.Numbers.{point_number};
 ghost use Rattle.walk_points.specs.Walk.{Walkable};
 ghost use Rattle.terminators.specs.Edges.{term_edges};
 ghost use Rattle.terminators.specs.Kinds.{Known, term_of};
 ghost use Rattle.emit_edge_ends.specs.Aimed.{Aimed, any_of, sole_count};
 
-use func_look::{
-    entry_count, entry_region, node_child, node_child_count, region_out_count, target, target_count,
-};
+use func_look::Function;
 use terminators::{Point, TermKind};
 
 // One, where there is just one target.
@@ -26,59 +24,56 @@ fn sole_count(n: usize) -> usize
 }
 
 // How many edges ctrl line c has.
-fn line_count(func: &[u32], c: usize) -> usize
-    requires tables { Tables func.now }
+fn line_count(func: &Function, c: usize) -> usize
     requires c_in_bounds { c < length (func_of func.now).ctrls }
     ensures { result ≡ length (term_edges (line_term (ctrl_line_of (func_of func.now) c).1)) }
 {
-    let n = entry_count(func, c);
+    let n = func.entry_count(c);
     if n != 0 {
         n
     } else {
-        sole_count(target_count(func, c))
+        sole_count(func.target_count(c))
     }
 }
 
 // One, where region r has outputs, which a way back takes along.
-fn back_count(func: &[u32], r: usize) -> usize
-    requires tables { Tables func.now }
+fn back_count(func: &Function, r: usize) -> usize
     requires r_in_bounds { r < length (func_of func.now).regions }
     ensures { result ≡ any_of (region_of (func_of func.now) r).outs }
 {
-    usize::from(region_out_count(func, r) != 0)
+    usize::from(func.region_out_count(r) != 0)
 }
 
 // How many edges a way out has.
-pub fn edge_count(func: &[u32], w: TermKind) -> usize
+pub fn edge_count(func: &Function, w: TermKind) -> usize
     requires { Known func.now w }
     ensures { result ≡ length (term_edges (term_of (func_of func.now) w)) }
 {
     match w {
         TermKind::Return(_) | TermKind::Leave(_) => 0,
         TermKind::Line(c) => line_count(func, c),
-        TermKind::Select(n, _) => sole_count(node_child_count(func, n)),
+        TermKind::Select(n, _) => sole_count(func.node_child_count(n)),
         TermKind::Test(_, r) => back_count(func, r),
         _ => 1,
     }
 }
 
 // Where edge k of ctrl line c leads, as a point's number.
-fn line_target(func: &[u32], c: usize, k: usize) -> usize
-    requires tables { Tables func.now }
+fn line_target(func: &Function, c: usize, k: usize) -> usize
     requires walkable { Walkable (func_of func.now) × Aimed (func_of func.now) }
     requires c_in_bounds { c < length (func_of func.now).ctrls }
     requires k_in_bounds { k < length (term_edges (line_term (ctrl_line_of (func_of func.now) c).1)) }
     ensures value { result ≡ point_number (get_or (term_edges (line_term (ctrl_line_of (func_of func.now) c).1)) k (region_entry 0, 0)).0 }
     ensures upper_bound { result < 512 }
 {
-    if entry_count(func, c) == 0 {
-        return Point::RegionEntry(target(func, c, 0)).number();
+    if func.entry_count(c) == 0 {
+        return Point::RegionEntry(func.target(c, 0)).number();
     }
-    Point::RegionEntry(entry_region(func, c, k)).number()
+    Point::RegionEntry(func.entry_region(c, k)).number()
 }
 
 // Where edge k leads.
-pub fn edge_target(func: &[u32], w: TermKind, k: usize) -> usize
+pub fn edge_target(func: &Function, w: TermKind, k: usize) -> usize
     requires known { Known func.now w }
     requires aimed { Aimed (func_of func.now) }
     requires k_in_bounds { k < length (term_edges (term_of (func_of func.now) w)) }
@@ -89,7 +84,7 @@ pub fn edge_target(func: &[u32], w: TermKind, k: usize) -> usize
         TermKind::Straight(q) => q,
         TermKind::Return(_) | TermKind::Leave(_) => 0,
         TermKind::Line(c) => line_target(func, c, k),
-        TermKind::Select(n, _) => Point::RegionEntry(node_child(func, n, 0)).number(),
+        TermKind::Select(n, _) => Point::RegionEntry(func.node_child(n, 0)).number(),
         TermKind::Loop(_, b, _) => Point::RegionEntry(b).number(),
         TermKind::Join(n, _) => Point::NodeExit(n).number(),
         // apart from the next one, since under one pattern for both the proof does not learn which it was

@@ -1,5 +1,6 @@
 // For each point, the edges into it that may carry values into phis: chains in the work slice. A phi has a pair for each kept block with an edge to
-// it, in kept-block order, so one pass over all positions, from the last to the first, links them all.
+// it, in kept-block order, so one pass over all positions, from the last to the first, links them all. The work slice is written, so that the layout
+// is said of it before and after (crate emit_ids).
 #![tactic(auto)]
 
 ghost use Rattle.std.specs.Prelude.{◌≡◌, ◌+◌, ◌-◌, ◌≤◌, ◌<◌, length};
@@ -15,7 +16,8 @@ ghost use Rattle.emit_edge_ends.specs.Ends.{position_edges, edges_from_position,
 ghost use Rattle.emit_edge_ends.specs.Links.{Linked, LinkedFrom, Unlinked, link_all, link_at, linked, origin_word};
 
 use emit_edge_ends::{edge_count, edge_target};
-use term_kinds::term_kind;
+use func_look::Function;
+use term_kinds::visits::Visits;
 use terminators::TermKind;
 use work::{ABSORBS, HEADS, NEXTS, ORIGINS, STATUSES, clear, word};
 
@@ -31,7 +33,7 @@ fn link_edge(work: &mut [u32], q: usize, i: usize, k: usize, e: usize)
 }
 
 // The edges of the way out w of position i are linked, from the last entry to the first, where e edges are: how many are then.
-fn link_term(func: &[u32], work: &mut [u32], w: TermKind, i: usize, e: usize) -> usize
+fn link_term(func: &Function, work: &mut [u32], w: TermKind, i: usize, e: usize) -> usize
     requires known { Known func.now w }
     requires aimed { Aimed (func_of func.now) }
     requires i_bound { (i < 512) × (e + length (term_edges (term_of (func_of func.now) w)) ≤ 1024) × (origins_end ≤ length work.old) }
@@ -48,7 +50,7 @@ fn link_term(func: &[u32], work: &mut [u32], w: TermKind, i: usize, e: usize) ->
 }
 
 // A kept block ends at position i.
-fn block_ends(func: &[u32], work: &[u32], m: usize, i: usize) -> bool
+fn block_ends(func: &Function, work: &[u32], m: usize, i: usize) -> bool
     requires laid { Laid func.now work.now m }
     requires i_lt_m { i < m }
     ensures { result ≡ ends_here (func_of func.now) i }
@@ -57,7 +59,7 @@ fn block_ends(func: &[u32], work: &[u32], m: usize, i: usize) -> bool
 }
 
 // The edges of position i are linked.
-fn link_at(func: &[u32], work: &mut [u32], m: usize, i: usize, e: usize) -> usize
+fn link_at(func: &Function, work: &mut [u32], m: usize, i: usize, e: usize) -> usize
     requires laid { Laid func.now work.old m }
     requires aimed { Aimed (func_of func.now) }
     requires i_lt_m { (i < m) × (e + length (position_edges (func_of func.now) i) ≤ 1024) }
@@ -66,14 +68,19 @@ fn link_at(func: &[u32], work: &mut [u32], m: usize, i: usize, e: usize) -> usiz
     ensures work_len_unchanged { length work.new ≡ length work.old }
 {
     if block_ends(func, work, m, i) {
-        let w = term_kind(func, work, m, i);
+        let visits = Visits {
+            func: &*func,
+            work,
+            count: m,
+        };
+        let w = visits.term_kind(i);
         return link_term(func, work, w, i, e);
     }
     e
 }
 
 // The edges of all positions are linked, from the last position to the first, where none is.
-fn link_all(func: &[u32], work: &mut [u32], m: usize)
+fn link_all(func: &Function, work: &mut [u32], m: usize)
     requires laid { Laid func.now work.old m }
     requires stands { Stands (func_of func.now) func.now }
     requires unlinked { Unlinked work.old }
@@ -90,7 +97,7 @@ fn link_all(func: &[u32], work: &mut [u32], m: usize)
 }
 
 // The edges of all positions are linked.
-pub fn link(func: &[u32], work: &mut [u32], m: usize)
+pub fn link(func: &Function, work: &mut [u32], m: usize)
     requires laid { Laid func.now work.old m }
     requires stands { Stands (func_of func.now) func.now }
     ensures linked_from { LinkedFrom (func_of func.now) work.old work.new }

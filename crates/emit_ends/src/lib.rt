@@ -12,15 +12,14 @@ ghost use Rattle.terminators.specs.At.{visited_block};
 ghost use Rattle.terminators.specs.Kinds.{Known, merge_of, term_of};
 ghost use Rattle.emit_words.specs.Writes.{Writes};
 ghost use Rattle.emit_insts.specs.Parts.{items_of_labels, merge_in, start_in, term_in};
-ghost use Rattle.emit_insts.specs.Ready.{EmitReady};
 
 use emit_elements::value_count;
-use emit_insts::{label_of, put_front, put_targets, put_values};
+use emit_insts::{Emission, label_of, put_front};
 use emit_lists::Imms;
 use emit_term_parts::{term_attrs, term_imms, term_ins, term_opcode};
 use emit_words::Writer;
 use opcodes::{InstKind, opcode};
-use term_kinds::term_kind;
+use term_kinds::visits::Visits;
 use term_parts::{merge, merge_control, merges, targets};
 use terminators::TermKind;
 
@@ -29,47 +28,36 @@ const SELECTION_CONTROL: u32 = 2;
 
 const LOOP_CONTROL: u32 = 3;
 
-// Appends the label that the i-th visited point's block starts with.
-pub fn put_label(func: &[u32], work: &[u32], out: &mut Writer, m: usize, first: u32, q: usize)
-    requires emit_ready { EmitReady func.now work.now m first }
+// Appends the label of the point with a number.
+pub fn put_label(e: &Emission, out: &mut Writer, q: usize)
     requires q_bound { q < 512 }
-    ensures { Writes out.old (start_in (func_of func.now) first (point_of q)) out.new }
+    ensures { Writes out.old (start_in (func_of e.now.func.now) e.now.first (point_of q)) out.new }
 {
     put_front(
-        func,
+        e.func,
         out,
         opcode(InstKind::Label),
         0,
         0,
-        label_of(work, q),
+        label_of(e.work, q),
         Imms::None,
         0,
     );
 }
 
 // Appends merge label k of a way out.
-fn put_merge_label(
-    func: &[u32],
-    work: &[u32],
-    out: &mut Writer,
-    m: usize,
-    first: u32,
-    w: TermKind,
-    k: usize,
-)
-    requires emit_ready { EmitReady func.now work.now m first }
-    requires known { Known func.now w × All Small (merge_labels (merge_of w)) }
+fn put_merge_label(e: &Emission, out: &mut Writer, w: TermKind, k: usize)
+    requires known { Known e.now.func.now w × All Small (merge_labels (merge_of w)) }
     requires k_in_bounds { k < length (merge_labels (merge_of w)) }
-    ensures { Writes out.old (items_of_labels (func_of func.now) first (get_or (merge_labels (merge_of w)) k (region_entry 0) ∷ [])) out.new }
+    ensures { Writes out.old (items_of_labels (func_of e.now.func.now) e.now.first (get_or (merge_labels (merge_of w)) k (region_entry 0) ∷ [])) out.new }
 {
-    out.put_id(label_of(work, merge(func, w, k)));
+    out.put_id(label_of(e.work, merge(e.func, w, k)));
 }
 
 // Appends the merge of a way out: a select's has one label, a loop's two.
-fn put_merge(func: &[u32], work: &[u32], out: &mut Writer, m: usize, first: u32, w: TermKind)
-    requires emit_ready { EmitReady func.now work.now m first }
-    requires known { Known func.now w × All Small (merge_labels (merge_of w)) }
-    ensures { Writes out.old (merge_in (func_of func.now) first (merge_of w)) out.new }
+fn put_merge(e: &Emission, out: &mut Writer, w: TermKind)
+    requires known { Known e.now.func.now w × All Small (merge_labels (merge_of w)) }
+    ensures { Writes out.old (merge_in (func_of e.now.func.now) e.now.first (merge_of w)) out.new }
 {
     let count = merges(w);
     if count == 0 {
@@ -78,7 +66,7 @@ fn put_merge(func: &[u32], work: &[u32], out: &mut Writer, m: usize, first: u32,
     let u = merge_control(w);
     if count == 1 {
         put_front(
-            func,
+            e.func,
             out,
             opcode(InstKind::SelectionMerge),
             0,
@@ -87,11 +75,11 @@ fn put_merge(func: &[u32], work: &[u32], out: &mut Writer, m: usize, first: u32,
             Imms::Short(SELECTION_CONTROL, u),
             1,
         );
-        put_merge_label(func, work, out, m, first, w, 0);
+        put_merge_label(e, out, w, 0);
         return;
     }
     put_front(
-        func,
+        e.func,
         out,
         opcode(InstKind::LoopMerge),
         0,
@@ -100,40 +88,43 @@ fn put_merge(func: &[u32], work: &[u32], out: &mut Writer, m: usize, first: u32,
         Imms::Short(LOOP_CONTROL, u),
         2,
     );
-    put_merge_label(func, work, out, m, first, w, 0);
-    put_merge_label(func, work, out, m, first, w, 1);
+    put_merge_label(e, out, w, 0);
+    put_merge_label(e, out, w, 1);
 }
 
 // Appends a way out.
-fn put_term(func: &[u32], work: &[u32], out: &mut Writer, m: usize, first: u32, w: TermKind)
-    requires emit_ready { EmitReady func.now work.now m first }
-    requires m_nonzero { (0 < m) × Known func.now w }
-    requires all { All Small (term_of (func_of func.now) w).targets × All (Named (func_of func.now)) (term_of (func_of func.now) w).ins }
-    ensures { Writes out.old (term_in (func_of func.now) first (term_of (func_of func.now) w)) out.new }
+fn put_term(e: &Emission, out: &mut Writer, w: TermKind)
+    requires count_nonzero { (0 < e.now.count) × Known e.now.func.now w }
+    requires all { All Small (term_of (func_of e.now.func.now) w).targets × All (Named (func_of e.now.func.now)) (term_of (func_of e.now.func.now) w).ins }
+    ensures { Writes out.old (term_in (func_of e.now.func.now) e.now.first (term_of (func_of e.now.func.now) w)) out.new }
 {
-    let ins = term_ins(func, w);
-    let ids = value_count(func, ins) + targets(func, w);
+    let ins = term_ins(e.func, w);
+    let ids = value_count(e.func, ins) + targets(e.func, w);
     put_front(
-        func,
+        e.func,
         out,
-        term_opcode(func, w),
-        term_attrs(func, w),
+        term_opcode(e.func, w),
+        term_attrs(e.func, w),
         0,
         0,
-        term_imms(func, w),
+        term_imms(e.func, w),
         ids,
     );
-    put_values(func, work, out, m, first, ins);
-    put_targets(func, work, out, m, first, w);
+    e.put_values(out, ins);
+    e.put_targets(out, w);
 }
 
 // Appends the merge and the way out of the i-th visited point.
-pub fn put_end(func: &[u32], work: &[u32], out: &mut Writer, m: usize, first: u32, i: usize)
-    requires emit_ready { EmitReady func.now work.now m first }
-    requires i_lt_m { i < m }
-    ensures { Writes out.old (merge_in (func_of func.now) first (visited_block (func_of func.now) i).term.merge ++ term_in (func_of func.now) first (visited_block (func_of func.now) i).term) out.new }
+pub fn put_end(e: &Emission, out: &mut Writer, i: usize)
+    requires i_lt_count { i < e.now.count }
+    ensures { Writes out.old (merge_in (func_of e.now.func.now) e.now.first (visited_block (func_of e.now.func.now) i).term.merge ++ term_in (func_of e.now.func.now) e.now.first (visited_block (func_of e.now.func.now) i).term) out.new }
 {
-    let w = term_kind(func, work, m, i);
-    put_merge(func, work, out, m, first, w);
-    put_term(func, work, out, m, first, w);
+    let visits = Visits {
+        func: e.func,
+        work: e.work,
+        count: e.count,
+    };
+    let w = visits.term_kind(i);
+    put_merge(e, out, w);
+    put_term(e, out, w);
 }

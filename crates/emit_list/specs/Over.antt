@@ -1,7 +1,9 @@
 -- What emitting a whole list asks, and how the laid-out tables give it. Assumes nothing.
 --     Over              tables, blocks, ids and edges of a text that stands in its slice
+--     linked_prop       at most one proof that the edges are linked, as a type's invariant has to have
 --     shaped-over       a text with a body is shaped
 use Rattle.std.specs.Prelude.{◌≡◌, true, List, ℕ}
+use denote.Struct.Props.{props}
 use Rattle.lifting.specs.Ast.{Func}
 use Rattle.lifting.specs.Parts.{has_body}
 use Rattle.func.specs.Decode.{func_of}
@@ -17,3 +19,6 @@ pub record Over (w u : List ℕ) (m first : ℕ) : Type 0 where
 
 pub shaped_passes : (F : Func) → Passes F → has_body F.regions ≡ true → Shaped F
 shaped_passes F ok body = shaped_checked F body ok.references ok.tree ok.counts ok.control
+
+pub linked_prop : (F : Func) (u : List ℕ) → IsProp (Linked F u)
+linked_prop F u = hlevel props

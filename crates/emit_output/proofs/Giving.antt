@@ -8,11 +8,10 @@ use Prim.Native.Nat.{ℕ}
 use native.Mathlib.Omega.{arith}
 use lib.Dec.{leb, ltb}
 use lib.ListN.{drop, length}
-use Rattle.refusals.specs.declared.Refusal.TheVariants.{Ids, Values, Output}
+use Rattle.refusals.specs.declared.Refusal.TheVariants.{Values, Output}
 use Rattle.refusals.specs.Numbers.{refusal_number}
 use Rattle.general_laws.specs.Lists.{every}
 use Rattle.lifting.specs.Ast.{Func}
-use Rattle.lifting.specs.Parts.{ids}
 use Rattle.lifting.specs.Walk.{walk_of}
 use Rattle.lifting.specs.Absorb.{kept}
 use Rattle.lifting.specs.Ids.{next_id}

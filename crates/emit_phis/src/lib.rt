@@ -1,4 +1,5 @@
-// The phis of a visited point, appended one by one: what each sets, and its pairs, a value and a label for each edge into the point.
+// The phis of a visited point, appended one by one: what each sets, and its pairs, a value and a label for each edge into the point. Of all that is emitted
+// they alone go by the chains of edges, so that these are a clause here and no part of `Emission`.
 #![tactic(auto)]
 
 mod keys;
@@ -10,7 +11,6 @@ ghost use Rattle.terminators.specs.At.{visited_block, point_at};
 ghost use Rattle.emit_words.specs.Writes.{Writes};
 ghost use Rattle.emit_edge_ends.specs.Ends.{edges_into};
 ghost use Rattle.emit_edge_ends.specs.Links.{Linked};
-ghost use Rattle.emit_insts.specs.Ready.{EmitReady};
 ghost use Rattle.emit_chains.specs.Edge.{edge_word};
 ghost use Rattle.emit_phis.specs.Along.{FirstInto};
 ghost use Rattle.emit_phis.specs.Items.{phi_in, phi_items_at};
@@ -18,35 +18,31 @@ ghost use Rattle.emit_phis.specs.Items.{phi_in, phi_items_at};
 use crate::keys::phi_value;
 use crate::pairs::{first_into, pair_words, put_pairs};
 use emit_carried::phi_decl;
-use emit_insts::{id_of, put_front};
+use emit_chains::Chains;
+use emit_insts::{Emission, put_front};
 use emit_lists::Imms;
 use emit_words::Writer;
 use opcodes::{InstKind, opcode};
+use term_kinds::visits::Visits;
 use term_labels::phi_count;
 
 // Appends phi j of the i-th visited point, by the first edge into it; its pairs have that many ids.
-fn put_phi(
-    func: &[u32],
-    work: &[u32],
-    out: &mut Writer,
-    m: usize,
-    first: u32,
-    i: usize,
-    j: usize,
-    from: Option<usize>,
-    ids: usize,
-)
-    requires emit_ready { EmitReady func.now work.now m first }
-    requires linked { Linked (func_of func.now) work.now }
-    requires i_lt_m { (i < m) × (j < length (visited_block (func_of func.now) i).keys) }
-    requires first_into { FirstInto (func_of func.now) work.now i (edge_word from) }
-    requires ids_value { (ids ≡ 2 * length (edges_into (func_of func.now) (point_at (func_of func.now) i) 0)) × (ids ≤ 2048) }
-    ensures { Writes out.old (phi_in (func_of func.now) first i j) out.new }
+fn put_phi(e: &Emission, out: &mut Writer, i: usize, j: usize, from: Option<usize>, ids: usize)
+    requires linked { Linked (func_of e.now.func.now) e.now.work.now }
+    requires i_lt_count { (i < e.now.count) × (j < length (visited_block (func_of e.now.func.now) i).keys) }
+    requires first_into { FirstInto (func_of e.now.func.now) e.now.work.now i (edge_word from) }
+    requires ids_value { (ids ≡ 2 * length (edges_into (func_of e.now.func.now) (point_at (func_of e.now.func.now) i) 0)) × (ids ≤ 2048) }
+    ensures { Writes out.old (phi_in (func_of e.now.func.now) e.now.first i j) out.new }
 {
-    let result = id_of(func, work, m, first, phi_value(func, work, m, i, j));
-    let decl = phi_decl(func, work, m, i, j);
+    let visits = Visits {
+        func: e.func,
+        work: e.work,
+        count: e.count,
+    };
+    let result = e.id_of(phi_value(&visits, i, j));
+    let decl = phi_decl(&visits, i, j);
     put_front(
-        func,
+        e.func,
         out,
         opcode(InstKind::Phi),
         decl.attrs,
@@ -55,19 +51,23 @@ fn put_phi(
         Imms::None,
         ids,
     );
-    put_pairs(func, work, out, m, first, i, j, from);
+    put_pairs(e, out, i, j, from);
 }
 
 // Appends the phis of the i-th visited point.
-pub fn put_phis(func: &[u32], work: &[u32], out: &mut Writer, m: usize, first: u32, i: usize)
-    requires emit_ready { EmitReady func.now work.now m first }
-    requires linked { Linked (func_of func.now) work.now }
-    requires i_lt_m { i < m }
-    ensures { Writes out.old (phi_items_at (func_of func.now) first i) out.new }
+pub fn put_phis(e: &Emission, out: &mut Writer, i: usize)
+    requires linked { Linked (func_of e.now.func.now) e.now.work.now }
+    requires i_lt_count { i < e.now.count }
+    ensures { Writes out.old (phi_items_at (func_of e.now.func.now) e.now.first i) out.new }
 {
-    let from = first_into(func, work, m, i);
-    let ids = pair_words(work, from);
-    for j in 0..phi_count(func, work, m, i) {
-        put_phi(func, work, out, m, first, i, j, from, ids);
+    let visits = Visits {
+        func: e.func,
+        work: e.work,
+        count: e.count,
+    };
+    let from = first_into(&visits, i);
+    let ids = pair_words(&Chains { work: e.work }, from);
+    for j in 0..phi_count(&visits, i) {
+        put_phi(e, out, i, j, from, ids);
     }
 }

@@ -4,26 +4,24 @@
 ghost use Rattle.std.specs.Prelude.{◌≡◌, ◌<◌, length};
 ghost use Rattle.lifting.specs.Instructions.{term_imms, term_opcode};
 ghost use Rattle.func.specs.Decode.{func_of};
-ghost use Rattle.func.specs.Tables.{Tables, ctrl_line_of};
+ghost use Rattle.func.specs.Tables.{ctrl_line_of};
 ghost use Rattle.terminators.specs.declared.TermKind.TheVariants.{Leave};
 ghost use Rattle.terminators.specs.Kinds.{Known, term_of};
 ghost use Rattle.emit_lists.specs.Named.{ImmsAre, ValuesAre, return_opcode};
 
 use emit_lists::{Imms, Values};
 use func::{CtrlKind, NodeKind};
-use func_look::{
-    ctrl_attrs, ctrl_in_count, ctrl_kind, ctrl_opcode, node_kind, node_opcode, region_out_count,
-};
+use func_look::Function;
 use opcodes::{InstKind, opcode};
 use terminators::TermKind;
 
 // The attributes of a way out.
-pub fn term_attrs(func: &[u32], w: TermKind) -> u32
+pub fn term_attrs(func: &Function, w: TermKind) -> u32
     requires { Known func.now w }
     ensures { result ≡ (term_of (func_of func.now) w).attrs }
 {
     match w {
-        TermKind::Line(c) => ctrl_attrs(func, c),
+        TermKind::Line(c) => func.ctrl_attrs(c),
         _ => 0,
     }
 }
@@ -39,40 +37,38 @@ fn return_opcode(n: usize) -> u32
 }
 
 // The opcode of ctrl line c.
-fn line_opcode(func: &[u32], c: usize) -> u32
-    requires tables { Tables func.now }
+fn line_opcode(func: &Function, c: usize) -> u32
     requires c_in_bounds { c < length (func_of func.now).ctrls }
     ensures { result ≡ term_opcode (ctrl_line_of (func_of func.now) c).1.kind (ctrl_line_of (func_of func.now) c).1.ins }
 {
-    match ctrl_kind(func, c) {
+    match func.ctrl_kind(c) {
         CtrlKind::Unreachable => opcode(InstKind::Unreachable),
-        CtrlKind::Return => return_opcode(ctrl_in_count(func, c)),
+        CtrlKind::Return => return_opcode(func.ctrl_in_count(c)),
         CtrlKind::Branch => opcode(InstKind::Branch),
         CtrlKind::Bool => opcode(InstKind::BranchConditional),
-        CtrlKind::Inst | CtrlKind::Exit => ctrl_opcode(func, c),
+        CtrlKind::Inst | CtrlKind::Exit => func.ctrl_opcode(c),
     }
 }
 
 // The opcode of the way out of node n's entry.
-fn entry_opcode(func: &[u32], n: usize) -> u32
-    requires tables { Tables func.now }
+fn entry_opcode(func: &Function, n: usize) -> u32
     requires n_in_bounds { n < length (func_of func.now).nodes }
     ensures { result ≡ term_opcode (term_of (func_of func.now) (Leave n)).kind (term_of (func_of func.now) (Leave n)).ins }
 {
-    match node_kind(func, n) {
+    match func.node_kind(n) {
         NodeKind::Block | NodeKind::Loop => opcode(InstKind::Branch),
         NodeKind::SelectBool => opcode(InstKind::BranchConditional),
-        NodeKind::SelectInst | NodeKind::Exit => node_opcode(func, n),
+        NodeKind::SelectInst | NodeKind::Exit => func.node_opcode(n),
     }
 }
 
 // The opcode of a way out: ReturnValue exactly where a return has an input.
-pub fn term_opcode(func: &[u32], w: TermKind) -> u32
+pub fn term_opcode(func: &Function, w: TermKind) -> u32
     requires { Known func.now w }
     ensures { result ≡ term_opcode (term_of (func_of func.now) w).kind (term_of (func_of func.now) w).ins }
 {
     match w {
-        TermKind::Return(r) => return_opcode(region_out_count(func, r)),
+        TermKind::Return(r) => return_opcode(func.region_out_count(r)),
         TermKind::Line(c) => line_opcode(func, c),
         TermKind::Leave(n) | TermKind::Select(n, _) => entry_opcode(func, n),
         TermKind::Test(_, _) => opcode(InstKind::BranchConditional),
@@ -81,7 +77,7 @@ pub fn term_opcode(func: &[u32], w: TermKind) -> u32
 }
 
 // Its immediates.
-pub fn term_imms(func: &[u32], w: TermKind) -> Imms
+pub fn term_imms(func: &Function, w: TermKind) -> Imms
     requires { Known func.now w }
     ensures { ImmsAre (func_of func.now) (term_imms (term_of (func_of func.now) w).kind) result }
 {
@@ -93,7 +89,7 @@ pub fn term_imms(func: &[u32], w: TermKind) -> Imms
 }
 
 // Its inputs.
-pub fn term_ins(func: &[u32], w: TermKind) -> Values
+pub fn term_ins(func: &Function, w: TermKind) -> Values
     requires { Known func.now w }
     ensures { ValuesAre (func_of func.now) (term_of (func_of func.now) w).ins result }
 {

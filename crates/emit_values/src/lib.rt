@@ -10,19 +10,18 @@ ghost use Rattle.emit_names.specs.Ids.{Ids};
 ghost use Rattle.emit_values.specs.Given.{all_given};
 
 use emit_value_ids::value_id;
-use func_look::value;
-use func_pools::{VALUES, count};
+use func_look::Function;
 
 // Every value of the text has an id.
-pub fn all_given(func: &[u32], work: &[u32], first: u32) -> bool
+pub fn all_given(func: &Function, work: &[u32], first: u32) -> bool
     requires stands { Stands (func_of func.now) func.now }
     requires regions_nonzero { 0 < length (func_of func.now).regions }
     requires ids { Ids (func_of func.now) first work.now }
     requires ids_end_in_bounds { (ids_end ≤ length work.now) × (first ≤ highest_id) }
     ensures { result ≡ all_given (func_of func.now) first }
 {
-    for i in 0..count(func, VALUES) as usize {
-        if value_id(func, work, first, value(func, i)) == 0 {
+    for i in 0..func.value_total() {
+        if value_id(func, work, first, func.value_at(i)) == 0 {
             return false;
         }
     }

@@ -1,4 +1,5 @@
-// Words appended to the output slice at a place. A word past the slice's end is counted and not stored, so that a run over an empty slice counts.
+// Words appended to the output slice at a place. A word past the slice's end is counted and not stored, so that a run over an empty slice counts. A
+// writer is no part of what is written from, since that is lent to many and it to one.
 #![tactic(auto)]
 
 ghost use Rattle.std.specs.Prelude.{◌≡◌, [], ◌∷◌, set};
@@ -21,7 +22,7 @@ pub struct Writer<'a> {
     pub cursor: Cursor,
 }
 
-// Stores a word where there is room.
+// Stores a word where there is room. By an index: of a slice that `get_mut` lent from, proofs know the length alone.
 fn store(out: &mut [u32], at: usize, x: u32)
     ensures { out.new ≡ set out.old at x }
 {
@@ -39,7 +40,7 @@ impl Writer<'_> {
         self.cursor.at = self.cursor.at.saturating_add(1);
     }
 
-    // Appends an id, 0 where there is none.
+    // Appends an id, or 0, which is what the list writes for none; that an id was missing is remembered.
     pub fn put_id(&mut self, x: u32)
         ensures { Writes self.old (id x ∷ []) self.new }
     {

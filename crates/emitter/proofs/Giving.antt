@@ -15,7 +15,6 @@ use Rattle.lifting.specs.Limits.{highest_id}
 use Rattle.lifting.specs.Walk.{walk_of}
 use Rattle.lifting.specs.Absorb.{kept}
 use Rattle.lifting.specs.Ids.{next_id}
-use Rattle.lifting.specs.Words.{words}
 use Rattle.lifting.specs.Answer.{ids_fit, lifted, parsed, refused}
 use Rattle.check_first.specs.Fit.{ids_fit_law}
 use Rattle.std.specs.Prelude.{Err}

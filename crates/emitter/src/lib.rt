@@ -15,20 +15,22 @@ use blocks::blocks;
 use check_first::first_fits;
 use emit_edges::link;
 use emit_ids::number;
+use emit_insts::Emission;
+use emit_list::Listing;
 use emit_output::written;
-use func_look::region_total;
+use func_look::Function;
 use refusals::Refusal;
 use refusals::limits::{id_fits, next_fits};
 use results::{Lifted, Unlifted};
 
 // The blocks of the text stand in the work slice: how many points are visited. An imported function has none.
-fn lay(func: &[u32], work: &mut [u32]) -> usize
+fn lay(func: &Function, work: &mut [u32]) -> usize
     requires stands { Stands (func_of func.now) func.now }
     requires work_need_in_bounds { work_need ≤ length work.old }
     ensures laid { Laid func.now work.new result }
     ensures work_len_unchanged { length work.new ≡ length work.old }
 {
-    if region_total(func) == 0 {
+    if func.region_total() == 0 {
         return 0;
     }
     blocks(func, work)
@@ -36,7 +38,12 @@ fn lay(func: &[u32], work: &mut [u32]) -> usize
 
 // The list of the text that stands in the tables is written to the output slice, with new ids from the first one on; or refusal 9, 10 or 11 leaves that
 // slice alone. The work slice may hold anything, and keeps what was laid out there.
-pub fn emit(func: &[u32], work: &mut [u32], out: &mut [u32], first: u32) -> Result<Lifted, Unlifted>
+pub fn emit(
+    func: &Function,
+    work: &mut [u32],
+    out: &mut [u32],
+    first: u32,
+) -> Result<Lifted, Unlifted>
     requires stands { Stands (func_of func.now) func.now }
     requires work_need_in_bounds { work_need ≤ length work.old }
     ensures gives { Gives (lifted (parsed (func_of func.now)) first (length out.old)) result out.old out.new }
@@ -49,11 +56,17 @@ pub fn emit(func: &[u32], work: &mut [u32], out: &mut [u32], first: u32) -> Resu
     if !id_fits(first) {
         return Err(Unlifted::from(Refusal::Ids));
     }
-    let m = lay(func, work);
-    let next = number(func, work, m, first);
+    let count = lay(func, work);
+    let next = number(func, work, count, first);
     if !next_fits(next) {
         return Err(Unlifted::from(Refusal::Ids));
     }
-    link(func, work, m);
-    written(func, work, out, m, first, next)
+    link(func, work, count);
+    let emission = Emission {
+        func: &*func,
+        work,
+        count,
+        first,
+    };
+    written(&Listing { emission }, out, next)
 }

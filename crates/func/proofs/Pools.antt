@@ -8,7 +8,7 @@ use Rattle.std.proofs.Math.ListN.{get_or-map}
 use Rattle.general_laws.specs.Every.{every_at}
 use Rattle.general_laws.specs.Tests.{both}
 use Rattle.general_laws.specs.Lists.{every}
-use Rattle.func.specs.Layout.{Pool, ctrls, pool_total, shapes, lay, pools, pool_of, base, width, room, end, func_need, Placed, entry_inside, entry_words, entry_room}
+use Rattle.func.specs.Layout.{Extent, ctrls, pool_total, shapes, lay, pools, pool_of, base, width, room, end, func_need, Placed, entry_inside, entry_words, entry_room}
 
 pub need_is : end ctrls ≡ func_need
 unfolding end base width room pool_of pools shapes lay
@@ -16,18 +16,18 @@ need_is = refl
 
 -- THE test: each pool lies above the counts and within the slice, its entries and their number are small, and the pools after it begin
 -- where it has ended.
-end_of : Pool → ℕ
+end_of : Extent → ℕ
 end_of p = p.base + p.room * p.width
 
-placed : Pool → Bool
+placed : Extent → Bool
 unfolding end_of
 placed p = leb 32 p.base && leb (end_of p) func_need && leb p.room 2048 && leb p.width 8 && leb 1 p.width
 
-before : Pool → Pool → Bool
+before : Extent → Extent → Bool
 unfolding end_of
 before p q = leb (end_of p) q.base
 
-sound : List Pool → Bool
+sound : List Extent → Bool
 unfolding placed before
 sound [] = true
 sound (p ∷ ps) = placed p && every (before p) ps && sound ps
@@ -37,19 +37,19 @@ unfolding pools shapes lay sound placed before end_of
 passed = refl
 
 -- the test at one pool, and at two
-parts : (p : Pool) (ps : List Pool) → sound (p ∷ ps) ≡ true → (placed p ≡ true) × (every (before p) ps ≡ true) × (sound ps ≡ true)
+parts : (p : Extent) (ps : List Extent) → sound (p ∷ ps) ≡ true → (placed p ≡ true) × (every (before p) ps ≡ true) × (sound ps ≡ true)
 unfolding sound
 parts p ps e =
     let a = both (placed p && every (before p) ps) (sound ps) e in
     let b = both (placed p) (every (before p) ps) a.0 in
     (b.0, b.1, a.1)
 
-placed_at : (ps : List Pool) → sound ps ≡ true → (k : ℕ) (d : Pool) → k < length ps → placed (get_or ps k d) ≡ true
+placed_at : (ps : List Extent) → sound ps ≡ true → (k : ℕ) (d : Extent) → k < length ps → placed (get_or ps k d) ≡ true
 placed_at [] e k d h = absurd (not-suc-le-zero h)
 placed_at (p ∷ ps) e zero d h = (parts p ps e).0
 placed_at (p ∷ ps) e (suc k) d h = placed_at ps (parts p ps e).2 k d (le_of_suc-le-suc h)
 
-before_at : (ps : List Pool) → sound ps ≡ true → (j k : ℕ) (d : Pool) → j < k → k < length ps → before (get_or ps j d) (get_or ps k d) ≡ true
+before_at : (ps : List Extent) → sound ps ≡ true → (j k : ℕ) (d : Extent) → j < k → k < length ps → before (get_or ps j d) (get_or ps k d) ≡ true
 before_at [] e j k d l h = absurd (not-suc-le-zero h)
 before_at (p ∷ ps) e j zero d l h = absurd (not-suc-le-zero l)
 before_at (p ∷ ps) e zero (suc k) d l h = every_at (before p) ps (parts p ps e).1 k d (le_of_suc-le-suc h)
@@ -91,8 +91,8 @@ spot k i b v l h e q =
 
 pub entry_words_law : (k : ℕ) → entry_words k ≡ width k
 unfolding width pool_of pools shapes lay
-entry_words_law k = get_or-map (λ (p : Pool). p.width) pools k (record { base = 0; width = 0; room = 0 })
+entry_words_law k = get_or-map (λ (p : Extent). p.width) pools k (record { base = 0; width = 0; room = 0 })
 
 pub entry_room_law : (k : ℕ) → entry_room k ≡ room k
 unfolding room pool_of pools shapes lay
-entry_room_law k = get_or-map (λ (p : Pool). p.room) pools k (record { base = 0; width = 0; room = 0 })
+entry_room_law k = get_or-map (λ (p : Extent). p.room) pools k (record { base = 0; width = 0; room = 0 })

@@ -6,7 +6,7 @@ use Rattle.std.specs.Prelude.{List, [], ◌∷◌, ℕ, suc, ◌+◌, ◌*◌, �
 use Rattle.std.proofs.Common.{mul-le-mul_right, suc-mul, arith}
 use Rattle.lifting.specs.Limits.{max_regions, max_nodes, max_ops, max_consts, max_params, max_values, max_decls, max_immediates, max_targets}
 
-pub record Pool : Type 0 where
+pub record Extent : Type 0 where
   pub base : ℕ
   pub width : ℕ
   pub room : ℕ
@@ -84,15 +84,15 @@ shapes =
     ∷ []
 
 -- one pool after the other
-unfoldable pub lay : ℕ → List (ℕ × ℕ) → List Pool
+unfoldable pub lay : ℕ → List (ℕ × ℕ) → List Extent
 lay base [] = []
 lay base (s ∷ ss) = record { base = base; width = s.0; room = s.1 } ∷ lay (base + s.1 * s.0) ss
 
-unfoldable pub pools : List Pool
+unfoldable pub pools : List Extent
 unfolding shapes lay
 pools = lay 32 shapes
 
-unfoldable pub pool_of : ℕ → Pool
+unfoldable pub pool_of : ℕ → Extent
 unfolding pools
 pool_of k = get_or pools k (record { base = 0; width = 0; room = 0 })
 

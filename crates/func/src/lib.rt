@@ -72,7 +72,7 @@ pub struct Immediate {
     pub word: u32,
 }
 
-// The number of a kind in a row.
+// The number of a kind in a row. One impl for each kind: only the enum itself is cast, a type parameter is not.
 impl From<NodeKind> for u32 {
     fn from(node: NodeKind) -> Self
         ensures { result ≡ node_kind_number node }
@@ -89,7 +89,8 @@ impl From<CtrlKind> for u32 {
     }
 }
 
-// Kinds from their numbers in a row. The last of a kind's numbers is every number that is none of the others.
+// Kinds from their numbers in a row, which the slice holds as words; no other place compares these. The last of a kind's numbers is every number that is
+// none of the others.
 impl From<u32> for NodeKind {
     fn from(number: u32) -> Self
         ensures { result ≡ node_kind_from number }
@@ -119,6 +120,7 @@ impl From<u32> for CtrlKind {
     }
 }
 
+// These are made from three words and not from one value, so that they are no `From`.
 impl OpKind {
     pub fn from_words(number: u32, first: u32, second: u32) -> OpKind
         ensures { result ≡ op_kind_from number first second }

@@ -2,16 +2,54 @@
 #![tactic(auto)]
 
 ghost use Rattle.std.specs.Prelude.{◌≡◌, ◌+◌, ◌/◌, ◌%◌, ◌≤◌, ◌<◌, length, get_or};
-ghost use Rattle.func.specs.Layout.{func_need, consts, params, decls, regions, nodes, ops, node_refs, child_refs, entry_words};
+ghost use Rattle.func.specs.Layout.{func_need, nodes, ops, entry_words};
 ghost use Rattle.func.specs.Kinds.{node_kind_from, op_kind_from};
 ghost use Rattle.func.specs.Tables.{Within, word};
+ghost use Rattle.func_pools.specs.Pools.{pool_number};
+ghost use Rattle.func_rows.specs.Columns.{column_pool, column_place, list_pool, list_place, element_pool};
 
 use func::{NodeKind, OpKind};
-use func_pools::{
-    CHILD_REFS, CONSTS, DECLS, NODE_REFS, NODES, OPS, PARAMS, REGIONS, run_at, run_count, word,
-};
+use func_pools::{Pool, word};
 
-// The func line's return type id.
+// A word of a row that is one number: an id, a type id, an opcode, a control number. Every row has each word, so that without an INST or a
+// merge there is 0 in its place (`node_cells`), and the text itself writes 0 for the type of an op without a result.
+#[derive(Clone, Copy)]
+pub enum Column {
+    ConstId,
+    ConstOpcode,
+    ParamType,
+    DeclType,
+    NodeOpcode,
+    NodeControl,
+    OpType,
+}
+
+// A word of a row that says where a list lies.
+#[derive(Clone, Copy)]
+pub enum RowList {
+    RegionIns,
+    RegionNodes,
+    RegionResults,
+    NodeValues,
+    NodeChildren,
+    NodeOuts,
+}
+
+impl RowList {
+    // The pool that its elements stand in.
+    fn elements(self) -> Pool
+        ensures { pool_number result ≡ element_pool self }
+    {
+        match self {
+            RowList::RegionIns | RowList::NodeOuts => Pool::Decls,
+            RowList::RegionNodes => Pool::NodeRefs,
+            RowList::RegionResults | RowList::NodeValues => Pool::Values,
+            RowList::NodeChildren => Pool::ChildRefs,
+        }
+    }
+}
+
+// The func line's return type id. It stands in no pool, as does its function type id, so that each has a reader of its own.
 pub fn head_ret(func: &[u32]) -> u32
     requires { func_need ≤ length func.now }
     ensures { result ≡ get_or func.now 1 0 }
@@ -27,79 +65,70 @@ pub fn head_type(func: &[u32]) -> u32
     func[2]
 }
 
-// The id of constant i.
-pub fn row_const_id(func: &[u32], i: usize) -> u32
-    requires { Within consts func.now i }
-    ensures { result ≡ word consts func.now i 0 }
+// The number of row i in a column.
+pub fn row_word(func: &[u32], column: Column, i: usize) -> u32
+    requires { Within (column_pool column) func.now i }
+    ensures { result ≡ word (column_pool column) func.now i (column_place column) }
 {
-    word(func, CONSTS, i, 0)
+    match column {
+        Column::ConstId => word(func, Pool::Consts, i, 0),
+        Column::ConstOpcode => word(func, Pool::Consts, i, 1),
+        Column::ParamType => word(func, Pool::Params, i, 1),
+        Column::DeclType => word(func, Pool::Decls, i, 1),
+        Column::NodeOpcode => word(func, Pool::Nodes, i, 1),
+        Column::NodeControl => word(func, Pool::Nodes, i, 7),
+        Column::OpType => word(func, Pool::Ops, i, 1),
+    }
 }
 
-// The opcode of constant i.
-pub fn row_const_opcode(func: &[u32], i: usize) -> u32
-    requires { Within consts func.now i }
-    ensures { result ≡ word consts func.now i 1 }
+// The run of a list of row i.
+fn run(func: &[u32], list: RowList, i: usize) -> u32
+    requires { Within (list_pool list) func.now i }
+    ensures { result ≡ word (list_pool list) func.now i (list_place list) }
 {
-    word(func, CONSTS, i, 1)
+    match list {
+        RowList::RegionIns => word(func, Pool::Regions, i, 0),
+        RowList::RegionNodes => word(func, Pool::Regions, i, 1),
+        RowList::RegionResults => word(func, Pool::Regions, i, 2),
+        RowList::NodeValues => word(func, Pool::Nodes, i, 3),
+        RowList::NodeChildren => word(func, Pool::Nodes, i, 5),
+        RowList::NodeOuts => word(func, Pool::Nodes, i, 6),
+    }
 }
 
-// The type id of parameter i.
-pub fn row_param_type(func: &[u32], i: usize) -> u32
-    requires { Within params func.now i }
-    ensures { result ≡ word params func.now i 1 }
+// How many elements a list of row i has.
+pub fn row_count(func: &[u32], list: RowList, i: usize) -> usize
+    requires { Within (list_pool list) func.now i }
+    ensures { result ≡ word (list_pool list) func.now i (list_place list) % 4096 }
 {
-    word(func, PARAMS, i, 1)
+    (run(func, list, i) % 4096) as usize
 }
 
-// The type id of input or output i of the pool.
-pub fn row_decl_type(func: &[u32], i: usize) -> u32
-    requires { Within decls func.now i }
-    ensures { result ≡ word decls func.now i 1 }
+// Where element n of that list stands in its pool.
+pub fn row_at(func: &[u32], list: RowList, i: usize, n: usize) -> usize
+    requires within { Within (list_pool list) func.now i }
+    requires n_bound { n ≤ 4095 }
+    ensures { result ≡ word (list_pool list) func.now i (list_place list) / 4096 + n }
 {
-    word(func, DECLS, i, 1)
+    (run(func, list, i) / 4096) as usize + n
+}
+
+// Element n of that list, where it is a list of numbers; of a list of others, what its element begins with.
+pub fn row_element(func: &[u32], list: RowList, i: usize, n: usize) -> usize
+    requires within { Within (list_pool list) func.now i }
+    requires n_bound { (n ≤ 4095) × Within (element_pool list) func.now (word (list_pool list) func.now i (list_place list) / 4096 + n) }
+    ensures { result ≡ word (element_pool list) func.now (word (list_pool list) func.now i (list_place list) / 4096 + n) 0 }
+{
+    row_ref(func, list.elements(), row_at(func, list, i, n))
 }
 
 // Number i of pool k, one of the pools of references: to nodes, to ops, to child regions.
-pub fn row_ref(func: &[u32], k: usize, i: usize) -> usize
-    requires within { Within k func.now i }
-    requires k_nonzero { 0 < entry_words k }
-    ensures { result ≡ word k func.now i 0 }
+pub fn row_ref(func: &[u32], k: Pool, i: usize) -> usize
+    requires within { Within (pool_number k) func.now i }
+    requires k_nonzero { 0 < entry_words (pool_number k) }
+    ensures { result ≡ word (pool_number k) func.now i 0 }
 {
     word(func, k, i, 0) as usize
-}
-
-// How many inputs region r has.
-pub fn row_ins(func: &[u32], r: usize) -> usize
-    requires { Within regions func.now r }
-    ensures { result ≡ word regions func.now r 0 % 4096 }
-{
-    run_count(func, REGIONS, r, 0)
-}
-
-// How many nodes region r has.
-pub fn row_nodes(func: &[u32], r: usize) -> usize
-    requires { Within regions func.now r }
-    ensures { result ≡ word regions func.now r 1 % 4096 }
-{
-    run_count(func, REGIONS, r, 1)
-}
-
-// Node i of region r.
-pub fn row_node(func: &[u32], r: usize, i: usize) -> usize
-    requires within { Within regions func.now r }
-    requires i_bound { (i ≤ 4095) × Within node_refs func.now (word regions func.now r 1 / 4096 + i) }
-    ensures { result ≡ word node_refs func.now (word regions func.now r 1 / 4096 + i) 0 }
-{
-    let at = run_at(func, REGIONS, r, 1, i);
-    word(func, NODE_REFS, at, 0) as usize
-}
-
-// How many outputs region r has.
-pub fn row_results(func: &[u32], r: usize) -> usize
-    requires { Within regions func.now r }
-    ensures { result ≡ word regions func.now r 2 % 4096 }
-{
-    run_count(func, REGIONS, r, 2)
 }
 
 // The kind of node n.
@@ -107,74 +136,7 @@ pub fn row_kind(func: &[u32], n: usize) -> NodeKind
     requires { Within nodes func.now n }
     ensures { result ≡ node_kind_from (word nodes func.now n 0) }
 {
-    NodeKind::from(word(func, NODES, n, 0))
-}
-
-// The opcode of node n's INST, 0 without one.
-pub fn row_opcode(func: &[u32], n: usize) -> u32
-    requires { Within nodes func.now n }
-    ensures { result ≡ word nodes func.now n 1 }
-{
-    word(func, NODES, n, 1)
-}
-
-// The control number of node n's merge, 0 without one.
-pub fn row_control(func: &[u32], n: usize) -> u32
-    requires { Within nodes func.now n }
-    ensures { result ≡ word nodes func.now n 7 }
-{
-    word(func, NODES, n, 7)
-}
-
-// How many values node n reads.
-pub fn row_values(func: &[u32], n: usize) -> usize
-    requires { Within nodes func.now n }
-    ensures { result ≡ word nodes func.now n 3 % 4096 }
-{
-    run_count(func, NODES, n, 3)
-}
-
-// How many child regions node n has.
-pub fn row_children(func: &[u32], n: usize) -> usize
-    requires { Within nodes func.now n }
-    ensures { result ≡ word nodes func.now n 5 % 4096 }
-{
-    run_count(func, NODES, n, 5)
-}
-
-// Where child region i of node n stands among the references to child regions.
-pub fn row_child_at(func: &[u32], n: usize, i: usize) -> usize
-    requires within { Within nodes func.now n }
-    requires i_bound { i ≤ 4095 }
-    ensures { result ≡ word nodes func.now n 5 / 4096 + i }
-{
-    run_at(func, NODES, n, 5, i)
-}
-
-// Child region i of node n.
-pub fn row_child(func: &[u32], n: usize, i: usize) -> usize
-    requires within { Within nodes func.now n }
-    requires i_bound { (i ≤ 4095) × Within child_refs func.now (word nodes func.now n 5 / 4096 + i) }
-    ensures { result ≡ word child_refs func.now (word nodes func.now n 5 / 4096 + i) 0 }
-{
-    let at = run_at(func, NODES, n, 5, i);
-    word(func, CHILD_REFS, at, 0) as usize
-}
-
-// How many outputs node n has.
-pub fn row_outs(func: &[u32], n: usize) -> usize
-    requires { Within nodes func.now n }
-    ensures { result ≡ word nodes func.now n 6 % 4096 }
-{
-    run_count(func, NODES, n, 6)
-}
-
-// The type id of op o's result, 0 without one.
-pub fn row_type(func: &[u32], o: usize) -> u32
-    requires { Within ops func.now o }
-    ensures { result ≡ word ops func.now o 1 }
-{
-    word(func, OPS, o, 1)
+    NodeKind::from(word(func, Pool::Nodes, n, 0))
 }
 
 // The kind of op o, with its opcode, its ID, or its ID and N.
@@ -183,8 +145,8 @@ pub fn row_op_kind(func: &[u32], o: usize) -> OpKind
     ensures { result ≡ op_kind_from (word ops func.now o 2) (word ops func.now o 3) (word ops func.now o 4) }
 {
     OpKind::from_words(
-        word(func, OPS, o, 2),
-        word(func, OPS, o, 3),
-        word(func, OPS, o, 4),
+        word(func, Pool::Ops, o, 2),
+        word(func, Pool::Ops, o, 3),
+        word(func, Pool::Ops, o, 4),
     )
 }

@@ -8,7 +8,7 @@ ghost use Rattle.func.specs.Keep.{pair_words, keep_value};
 ghost use Rattle.func.specs.Kinds.{as_value};
 
 use func::Val;
-use func_pools::{VALUES, push};
+use func_pools::{Pool, push};
 
 // A value's kind and first number in one word, its second number in the next.
 fn keep_pair(func: &mut [u32], kind: u32, a: u32, b: u32)
@@ -16,7 +16,7 @@ fn keep_pair(func: &mut [u32], kind: u32, a: u32, b: u32)
     ensures func_after { func.new ≡ push values (pair_words kind a b) func.old }
     ensures func_len_unchanged { length func.new ≡ length func.old }
 {
-    push(func, VALUES, &[kind * 65536 + a.min(65535), b]);
+    push(func, Pool::Values, &[kind * 65536 + a.min(65535), b]);
 }
 
 // A value: constant, input of a region, output of a node, result of an op.

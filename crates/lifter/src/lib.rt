@@ -8,6 +8,7 @@ ghost use Rattle.emit_output.specs.Emit.{Gives, Wants, outcome, told};
 ghost use Rattle.lifter.specs.Entry.{EndsClear, answer_to, wanted_to};
 
 use emitter::emit;
+use func_look::Function;
 use reader::{enough, judge};
 use refusals::Refusal;
 use results::{Lifted, Unlifted};
@@ -30,7 +31,7 @@ fn lift(
     ensures wanted { Wants (wanted_to text.now first func.old work.old) result }
 {
     judge(text, func, work)?;
-    emit(func, work, out, first)
+    emit(&Function::new(func), work, out, first)
 }
 
 // The list of the text stands in the output slice, and its count of words and the next free id are given; or the first refusal that holds, in the

@@ -12,21 +12,28 @@ ghost use Rattle.print_lines.specs.Lines.{block_lines, blocks_bytes};
 ghost use Rattle.print_blocks.specs.Stand.{LaidOut, WorkAfter};
 
 use blocks::blocks;
-use func_look::region_total;
+use func_look::Function;
 use print_kept::put_lines;
+use print_points::shown::Shown;
+use term_kinds::visits::Visits;
 
 // The lines of a function.
-fn put_function(func: &[u32], work: &mut [u32], out: &mut [u8]) -> usize
+fn put_function(func: &Function, work: &mut [u32], out: &mut [u8]) -> usize
     requires stands { Stands (func_of func.now) func.now }
     requires work_need_in_bounds { work_need ≤ length work.old }
     ensures put_bytes { PutBytes out.old 0 (block_lines (func_of func.now)) out.new result }
     ensures laid_out { LaidOut (func_of func.now) (func_of func.now).regions work.old work.new }
 {
-    if region_total(func) == 0 {
+    if func.region_total() == 0 {
         return 0;
     }
-    let m = blocks(func, work);
-    put_lines(func, work, m, out)
+    let count = blocks(func, work);
+    let visits = Visits {
+        func: &*func,
+        work,
+        count,
+    };
+    put_lines(&Shown { visits }, out)
 }
 
 // The lines of a text, or its refusal's.
@@ -36,7 +43,7 @@ pub fn put_answer(text: &[u8], func: &mut [u32], work: &mut [u32], out: &mut [u8
     ensures work_after { WorkAfter (parse text.now (length func.old) (length work.old)) work.old work.new }
 {
     match reader::parse(text, func, work) {
-        Ok(()) => put_function(func, work, out),
+        Ok(()) => put_function(&Function::new(func), work, out),
         Err(r) => print_refusal::refused(u32::from(r), out),
     }
 }

@@ -9,12 +9,21 @@ ghost use Rattle.print_command.specs.Printed.{case_bytes, command_bytes, printed
 
 use command::Command;
 use print_blocks::put_answer;
-use print_bytes::put_bytes;
+use print_bytes::Printer;
 use print_lifted::put_input;
 use print_read::put_read;
 use print_room::ROOM;
 use std::io;
 use std::io::{Read, Write};
+
+// These bytes.
+fn put_text(out: &mut [u8], text: &[u8]) -> usize
+    ensures { PutBytes out.old 0 text.now out.new result }
+{
+    let mut to = Printer { out, at: 0 };
+    to.put_bytes(text);
+    to.at
+}
 
 // By the command, with slices that the caller lends.
 fn put_of(
@@ -31,12 +40,11 @@ fn put_of(
         Command::Lift => put_input(out, input, func, work, words),
         Command::Read => put_read(out, input, func, work),
         Command::Blocks => put_answer(input, func, work, out),
-        Command::Help => put_bytes(
+        Command::Help => put_text(
             out,
-            0,
             b"spv COMMAND reads an input on standard input. The commands:\n  lift    the instruction list of a text behind a line (first N)\n  read    whether the reader accepts a text, or the number of the refusal\n  blocks  the kept blocks of a text\n  help    these lines\n",
         ),
-        Command::Unknown => put_bytes(out, 0, b"spv: no such command (spv help names them)\n"),
+        Command::Unknown => put_text(out, b"spv: no such command (spv help names them)\n"),
     }
 }
 
@@ -58,7 +66,9 @@ pub fn put_case(out: &mut [u8], case: &[u8]) -> usize
     let command = opened.command;
     let at = opened.at;
     let n = put(command, out, &case[at..]);
-    put_bytes(out, n, b"%%\n")
+    let mut end = Printer { out, at: n };
+    end.put_bytes(b"%%\n");
+    end.at
 }
 
 // Prints what a command prints for an input.

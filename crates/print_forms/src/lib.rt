@@ -4,10 +4,10 @@
 
 ghost use Rattle.std.specs.Prelude.{◌≡◌, get_or, take, drop};
 ghost use Rattle.lifting.specs.Words.{inst_from};
-ghost use Rattle.print_bytes.specs.Put.{PutBytes};
+ghost use Rattle.print_bytes.specs.Prints.{Prints};
 ghost use Rattle.print_bytes.specs.Lines.{imm_form_bytes, id_form_bytes};
 
-use print_bytes::{put_byte, put_bytes};
+use print_bytes::Printer;
 use print_operands::{put_ids, put_imms};
 
 // The word at a place, 0 past the end.
@@ -32,21 +32,21 @@ fn rest(words: &[u32], n: usize) -> &[u32]
 }
 
 // ` (imms ..)` of the instruction whose words stand at the front of these.
-pub fn put_imm_form(out: &mut [u8], at: usize, words: &[u32]) -> usize
-    ensures { PutBytes out.old at (imm_form_bytes (inst_from words.now).got.imms) out.new result }
+pub fn put_imm_form(out: &mut Printer, words: &[u32])
+    ensures { Prints out.old (imm_form_bytes (inst_from words.now).got.imms) out.new }
 {
-    let a = put_bytes(out, at, b" (imms");
-    let b = put_imms(out, a, rest(words, 5), word(words, 4));
-    put_byte(out, b, b')')
+    out.put_bytes(b" (imms");
+    put_imms(out, rest(words, 5), word(words, 4));
+    out.put_byte(b')');
 }
 
 // ` (ids ..)` of that instruction.
-pub fn put_id_form(out: &mut [u8], at: usize, words: &[u32]) -> usize
-    ensures { PutBytes out.old at (id_form_bytes (inst_from words.now).got.ids) out.new result }
+pub fn put_id_form(out: &mut Printer, words: &[u32])
+    ensures { Prints out.old (id_form_bytes (inst_from words.now).got.ids) out.new }
 {
     let imms = word(words, 4) as usize;
     let ids = word(words, 5 + 3 * imms) as usize;
-    let a = put_bytes(out, at, b" (ids");
-    let b = put_ids(out, a, front(rest(words, 6 + 3 * imms), ids));
-    put_byte(out, b, b')')
+    out.put_bytes(b" (ids");
+    put_ids(out, front(rest(words, 6 + 3 * imms), ids));
+    out.put_byte(b')');
 }

@@ -7,87 +7,73 @@ ghost use Rattle.walk_points.specs.Numbers.{point_of};
 ghost use Rattle.terminators.specs.At.{point_at, visited_block};
 ghost use Rattle.block_absorbs.specs.Absorbs.{absorbed};
 ghost use Rattle.print_bytes.specs.Put.{PutBytes};
+ghost use Rattle.print_bytes.specs.Prints.{Prints};
 ghost use Rattle.print_lines.specs.Lines.{start_bytes, end_bytes, block_lines};
 ghost use Rattle.print_lines.specs.Positions.{begin_bytes, line_at};
-ghost use Rattle.print_points.specs.Shows.{Shows};
 
-use print_bytes::{put_bytes, put_field};
+use print_bytes::Printer;
 use print_labels::{put_merge, put_targets};
-use print_points::stand::{absorbs, joined, point, status, uses};
+use print_points::shown::Shown;
 use print_points::{put_point, put_run};
 
 // `(block P (chain P..`, of a block that starts at position i.
-fn put_start(func: &[u32], work: &[u32], m: usize, i: usize, out: &mut [u8], at: usize) -> usize
-    requires shows { Shows func.now work.now m }
-    requires i_lt_m { i < m }
-    ensures { PutBytes out.old at (start_bytes (func_of func.now) (point_at (func_of func.now) i)) out.new result }
+fn put_start(shown: &Shown, i: usize, out: &mut Printer)
+    requires { i < shown.now.visits.count }
+    ensures { Prints out.old (start_bytes (func_of shown.now.visits.func.now) (point_at (func_of shown.now.visits.func.now) i)) out.new }
 {
-    let a = put_bytes(out, at, b"(block");
-    let b = put_point(out, a, point(func, work, m, i));
-    let c = put_bytes(out, b, b" (chain");
-    put_run(func, work, m, i, out, c)
+    out.put_bytes(b"(block");
+    put_point(out, shown.point(i));
+    out.put_bytes(b" (chain");
+    put_run(shown, i, out);
 }
 
 // That, unless the point before absorbs this one.
-fn put_begin(func: &[u32], work: &[u32], m: usize, i: usize, out: &mut [u8], at: usize) -> usize
-    requires shows { Shows func.now work.now m }
-    requires i_lt_m { i < m }
-    ensures { PutBytes out.old at (begin_bytes (func_of func.now) (absorbed (func_of func.now) i) (point_at (func_of func.now) i)) out.new result }
+fn put_begin(shown: &Shown, i: usize, out: &mut Printer)
+    requires { i < shown.now.visits.count }
+    ensures { Prints out.old (begin_bytes (func_of shown.now.visits.func.now) (absorbed (func_of shown.now.visits.func.now) i) (point_at (func_of shown.now.visits.func.now) i)) out.new }
 {
-    if joined(func, work, m, i) {
-        return at;
+    if shown.joined(i) {
+        return;
     }
-    put_start(func, work, m, i, out, at)
+    put_start(shown, i, out);
 }
 
 // `) (uses N) (to P..) (merge P..))`, of the block that starts at the point with number h and ends at position i.
-fn put_end(
-    func: &[u32],
-    work: &[u32],
-    m: usize,
-    h: usize,
-    i: usize,
-    out: &mut [u8],
-    at: usize,
-) -> usize
-    requires shows { Shows func.now work.now m }
-    requires h_bound { (h < 512) × (i < m) }
-    ensures { PutBytes out.old at (end_bytes (func_of func.now) (point_of h) (visited_block (func_of func.now) i).term) out.new result }
+fn put_end(shown: &Shown, h: usize, i: usize, out: &mut Printer)
+    requires { (h < 512) × (i < shown.now.visits.count) }
+    ensures { Prints out.old (end_bytes (func_of shown.now.visits.func.now) (point_of h) (visited_block (func_of shown.now.visits.func.now) i).term) out.new }
 {
-    let a = put_bytes(out, at, b") (uses");
-    let b = put_field(out, a, uses(func, work, m, h));
-    let c = put_bytes(out, b, b") (to");
-    let d = put_targets(func, work, m, i, out, c);
-    let e = put_bytes(out, d, b") (merge");
-    let f = put_merge(func, work, m, i, out, e);
-    put_bytes(out, f, b"))\n")
+    out.put_bytes(b") (uses");
+    out.put_field(shown.uses(h));
+    out.put_bytes(b") (to");
+    put_targets(shown, i, out);
+    out.put_bytes(b") (merge");
+    put_merge(shown, i, out);
+    out.put_bytes(b"))\n");
 }
 
 // What the point at position i brings to the lines.
-fn put_position(func: &[u32], work: &[u32], m: usize, i: usize, out: &mut [u8], at: usize) -> usize
-    requires shows { Shows func.now work.now m }
-    requires i_lt_m { i < m }
-    ensures { PutBytes out.old at (line_at (func_of func.now) i) out.new result }
+fn put_position(shown: &Shown, i: usize, out: &mut Printer)
+    requires { i < shown.now.visits.count }
+    ensures { Prints out.old (line_at (func_of shown.now.visits.func.now) i) out.new }
 {
-    let s = status(func, work, m, i);
-    if s == 0 {
-        return at;
+    let Some(h) = shown.block(i) else {
+        return;
+    };
+    put_begin(shown, i, out);
+    if shown.absorbs(i) {
+        return;
     }
-    let a = put_begin(func, work, m, i, out, at);
-    if absorbs(func, work, m, i) {
-        return a;
-    }
-    put_end(func, work, m, s - 1, i, out, a)
+    put_end(shown, h, i, out);
 }
 
 // The lines of the function.
-pub fn put_lines(func: &[u32], work: &[u32], m: usize, out: &mut [u8]) -> usize
-    requires { Shows func.now work.now m }
-    ensures { PutBytes out.old 0 (block_lines (func_of func.now)) out.new result }
+pub fn put_lines(shown: &Shown, out: &mut [u8]) -> usize
+    ensures { PutBytes out.old 0 (block_lines (func_of shown.now.visits.func.now)) out.new result }
 {
-    let mut at: usize = 0;
-    for i in 0..m {
-        at = put_position(func, work, m, i, out, at);
+    let mut lines = Printer { out, at: 0 };
+    for i in 0..shown.visits.count {
+        put_position(shown, i, &mut lines);
     }
-    at
+    lines.at
 }

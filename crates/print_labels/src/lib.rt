@@ -5,44 +5,32 @@ ghost use Rattle.std.specs.Prelude.{◌<◌};
 ghost use Rattle.lifting.specs.Absorb.{merge_labels};
 ghost use Rattle.func.specs.Decode.{func_of};
 ghost use Rattle.terminators.specs.At.{visited_block};
-ghost use Rattle.print_bytes.specs.Put.{PutBytes};
+ghost use Rattle.print_bytes.specs.Prints.{Prints};
 ghost use Rattle.print_lines.specs.Lines.{points_bytes};
-ghost use Rattle.print_points.specs.Shows.{Shows};
 
+use print_bytes::Printer;
 use print_points::put_point;
+use print_points::shown::Shown;
 use term_labels::{label, merge_count, target, target_count};
 
 // The targets of the point at position i.
-pub fn put_targets(
-    func: &[u32],
-    work: &[u32],
-    m: usize,
-    i: usize,
-    out: &mut [u8],
-    at: usize,
-) -> usize
-    requires shows { Shows func.now work.now m }
-    requires i_lt_m { i < m }
-    ensures { PutBytes out.old at (points_bytes (visited_block (func_of func.now) i).term.targets) out.new result }
+pub fn put_targets(shown: &Shown, i: usize, out: &mut Printer)
+    requires { i < shown.now.visits.count }
+    ensures { Prints out.old (points_bytes (visited_block (func_of shown.now.visits.func.now) i).term.targets) out.new }
 {
-    let n = target_count(func, work, m, i);
-    let mut next = at;
+    let n = target_count(&shown.visits, i);
     for k in 0..n {
-        next = put_point(out, next, target(func, work, m, i, k));
+        put_point(out, target(&shown.visits, i, k));
     }
-    next
 }
 
-// Its merge labels.
-pub fn put_merge(func: &[u32], work: &[u32], m: usize, i: usize, out: &mut [u8], at: usize) -> usize
-    requires shows { Shows func.now work.now m }
-    requires i_lt_m { i < m }
-    ensures { PutBytes out.old at (points_bytes (merge_labels (visited_block (func_of func.now) i).term.merge)) out.new result }
+// Its merge labels. A loop of its own: over both lists it would take a list's count, its element as a closure and what that promises.
+pub fn put_merge(shown: &Shown, i: usize, out: &mut Printer)
+    requires { i < shown.now.visits.count }
+    ensures { Prints out.old (points_bytes (merge_labels (visited_block (func_of shown.now.visits.func.now) i).term.merge)) out.new }
 {
-    let n = merge_count(func, work, m, i);
-    let mut next = at;
+    let n = merge_count(&shown.visits, i);
     for k in 0..n {
-        next = put_point(out, next, label(func, work, m, i, k));
+        put_point(out, label(&shown.visits, i, k));
     }
-    next
 }

@@ -5,46 +5,46 @@
 ghost use Rattle.std.specs.Prelude.{◌≡◌, ◌<◌, length};
 ghost use Rattle.lifting.specs.Words.{inst_from, list_from};
 ghost use Rattle.print_bytes.specs.Put.{PutBytes};
+ghost use Rattle.print_bytes.specs.Prints.{Prints};
 ghost use Rattle.print_bytes.specs.Shown.{inst_bytes, list_bytes};
 ghost use Rattle.print_bytes.specs.Lines.{head_bytes};
 ghost use Rattle.print_bytes.specs.Taken.{head_from, inst_size, Next};
 
-use print_bytes::{put_byte, put_bytes, put_field, put_number};
+use print_bytes::Printer;
 use print_forms::{put_id_form, put_imm_form, word};
 
 // `(OPCODE ATTRS TYPE RESULT`.
-fn put_head(out: &mut [u8], at: usize, opcode: u32, attrs: u32, ty: u32, res: u32) -> usize
-    ensures { PutBytes out.old at (head_bytes opcode attrs ty res) out.new result }
+fn put_head(out: &mut Printer, opcode: u32, attrs: u32, ty: u32, res: u32)
+    ensures { Prints out.old (head_bytes opcode attrs ty res) out.new }
 {
-    let a = put_byte(out, at, b'(');
-    let b = put_number(out, a, opcode);
-    let c = put_field(out, b, attrs);
-    let d = put_field(out, c, ty);
-    put_field(out, d, res)
+    out.put_byte(b'(');
+    out.put_number(opcode);
+    out.put_field(attrs);
+    out.put_field(ty);
+    out.put_field(res);
 }
 
 // `(OPCODE ATTRS TYPE RESULT` of the instruction whose words stand at the front of these.
-fn put_front(out: &mut [u8], at: usize, words: &[u32]) -> usize
-    ensures { PutBytes out.old at (head_from words.now) out.new result }
+fn put_front(out: &mut Printer, words: &[u32])
+    ensures { Prints out.old (head_from words.now) out.new }
 {
     put_head(
         out,
-        at,
         word(words, 0),
         word(words, 1),
         word(words, 2),
         word(words, 3),
-    )
+    );
 }
 
 // The line of that instruction.
-fn put_inst(out: &mut [u8], at: usize, words: &[u32]) -> usize
-    ensures { PutBytes out.old at (inst_bytes (inst_from words.now).got) out.new result }
+fn put_inst(out: &mut Printer, words: &[u32])
+    ensures { Prints out.old (inst_bytes (inst_from words.now).got) out.new }
 {
-    let a = put_front(out, at, words);
-    let b = put_imm_form(out, a, words);
-    let c = put_id_form(out, b, words);
-    put_bytes(out, c, b")\n")
+    put_front(out, words);
+    put_imm_form(out, words);
+    put_id_form(out, words);
+    out.put_bytes(b")\n");
 }
 
 // How many words that instruction has.
@@ -71,11 +71,11 @@ fn next_inst(words: &[u32], from: usize) -> usize
 pub fn list(words: &[u32], out: &mut [u8]) -> usize
     ensures { PutBytes out.old 0 (list_bytes (list_from words.now)) out.new result }
 {
-    let mut at: usize = 0;
+    let mut lines = Printer { out, at: 0 };
     let mut from: usize = 0;
     while from < words.len() {
-        at = put_inst(out, at, &words[from..]);
+        put_inst(&mut lines, &words[from..]);
         from = next_inst(words, from);
     }
-    at
+    lines.at
 }

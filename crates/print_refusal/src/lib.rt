@@ -8,16 +8,18 @@ ghost use Rattle.print_bytes.specs.Put.{PutBytes};
 ghost use Rattle.print_bytes.specs.Shown.{refused_bytes};
 ghost use Rattle.print_refusal.specs.Line.{line_of};
 
-use print_bytes::{put_byte, put_bytes, put_field, put_number};
+use print_bytes::Printer;
 use refusals::Refusal;
 
 // The line of a refusal.
 pub fn refused(n: u32, out: &mut [u8]) -> usize
     ensures { PutBytes out.old 0 (refused_bytes n) out.new result }
 {
-    let a = put_bytes(out, 0, b"(refused");
-    let b = put_field(out, a, n);
-    put_bytes(out, b, b")\n")
+    let mut line = Printer { out, at: 0 };
+    line.put_bytes(b"(refused");
+    line.put_field(n);
+    line.put_bytes(b")\n");
+    line.at
 }
 
 // That of an input with a bad first line, which is refusal 2.
@@ -31,11 +33,13 @@ pub fn bad_line(out: &mut [u8]) -> usize
 pub fn put_line(bytes: &mut [u8], parsed: Result<(), Refusal>) -> usize
     ensures { PutBytes bytes.old 0 (line_of parsed) bytes.new result }
 {
+    let mut line = Printer { out: bytes, at: 0 };
     match parsed {
-        Ok(()) => put_bytes(bytes, 0, b"accepted\n"),
+        Ok(()) => line.put_bytes(b"accepted\n"),
         Err(r) => {
-            let n = put_number(bytes, 0, u32::from(r));
-            put_byte(bytes, n, b'\n')
+            line.put_number(u32::from(r));
+            line.put_byte(b'\n');
         }
     }
+    line.at
 }

@@ -22,13 +22,12 @@ use Rattle.read_cursor.specs.Answers.{Missed}
 use Rattle.read_cursor.specs.Chains.{took_next, denied_next}
 use Rattle.read_cursor.specs.declared.Cursor.{Cursor}
 use Rattle.read_insts.specs.Heads.{inst_rest, exit_rest, selection_rest, control_rest}
-use Rattle.read_insts.specs.declared.Selection.{Selection}
+use Rattle.read_insts.specs.Kinds.{kind_of}
 use Rattle.read_insts.specs.declared.Selection.TheVariants as sel
 use Rattle.read_insts.specs.declared.Control.{Control}
 use Rattle.read_insts.specs.declared.Control.TheVariants as ctrl
 use Rattle.check_insts.specs.Test.{opcode_fits}
 use Rattle.func.specs.declared.Marks.{Marks}
-use Rattle.func.specs.Layout.{targets}
 use Rattle.func.specs.Store.{folds}
 use Rattle.func.specs.Keep.{ctrl_number, inst_opcode, inst_imms, keep_imm, keep_entry, keep_ctrl}
 use Rattle.func.specs.Kinds.{ctrl_kind_number}
@@ -40,7 +39,7 @@ use Rattle.check_ctrls.specs.declared.Judged.{Judged}
 use Rattle.check_edges.specs.Edges.{Edges, keep_edge, targets_fit}
 use Rattle.read_ctrls.specs.Judge.{judged_edges, keep_judged}
 use Rattle.read_ctrls.specs.Tails.{ctrl_lists, edges_form, ctrl_rest, to_ctrl, ctrl_tail}
-use Rattle.read_ctrls.specs.Answers.{edges_state, state_at, kind_of, keep_forms, keep_inst_forms, keep_lists}
+use Rattle.read_ctrls.specs.Answers.{edges_state, state_at, keep_forms, keep_inst_forms, keep_lists}
 use Rattle.check_ctrls.specs.Judged.{judged_with, opcode_in}
 
 -- a reader that reads the same

@@ -3,12 +3,6 @@ use Rattle.std.specs.Prelude.{Bool, List, ℕ, Option, None, Some}
 use Rattle.lifting.specs.Digits.{Reading}
 use Rattle.lifting.specs.Ast.{Value, Imm, ControlInstKind}
 use Rattle.lifting.specs.Parts.{ctrl_insts}
-use Rattle.read_insts.specs.declared.Selection.{Selection}
-use Rattle.read_insts.specs.declared.Selection.TheVariants as sel
-use Rattle.read_insts.specs.declared.Control.{Control}
-use Rattle.read_insts.specs.declared.Control.TheVariants as ctrl
-use Rattle.func.specs.declared.CtrlKind.{CtrlKind}
-use Rattle.func.specs.declared.CtrlKind.TheVariants as kept
 use Rattle.func.specs.Store.{folds}
 use Rattle.func.specs.Keep.{keep_imm, keep_value, keep_target, inst_imms}
 use Rattle.check_ctrls.specs.declared.Judged.{Judged}
@@ -29,18 +23,6 @@ edges_state w m b = record { func = w; marks = m; fit = b }
 
 abbrev pub state_at : List ℕ → List ℕ → Judged → State
 state_at w m j = record { func = w; marks = m; line = j.line; opcodes = j.opcodes; edges = j.edges }
-
--- K as the function slice has it
-abbrev pub select_kind : Selection → CtrlKind
-select_kind sel.Bool = kept.Bool
-select_kind (sel.Inst n) = kept.Inst
-
-abbrev pub kind_of : Control → CtrlKind
-kind_of ctrl.Unreachable = kept.Unreachable
-kind_of ctrl.Return = kept.Return
-kind_of ctrl.Branch = kept.Branch
-kind_of (ctrl.Exit n) = kept.Exit
-kind_of (ctrl.Select k) = select_kind k
 
 -- the lists of a line
 abbrev pub keep_forms : List Value × List ℕ → List ℕ → List ℕ

@@ -10,7 +10,6 @@ ghost use Rattle.read_ctrls.specs.Tails.{edges_form};
 ghost use Rattle.read_ctrls.specs.Answers.{StoresWith, edges_state};
 
 use check_edges::{mark, values_fit};
-use check_limits::both;
 use func::Marks;
 use func_pools::count;
 use read_cursor::Cursor;
@@ -30,7 +29,7 @@ fn entry_end(func: &mut [u32], work: &mut [u32], from: Marks, line: u32, fit: bo
     let fits = values_fit(func, from.values, r);
     func_store::entry_row(func, from, r);
     mark(work, line, r);
-    both(fit, fits)
+    fit && fits
 }
 
 // ` (R V..)`.

@@ -1,34 +1,17 @@
-// K of a ctrl line, and the lists behind it.
+// The lists behind K of a ctrl line.
 ghost use Rattle.std.specs.Prelude.{◌≡◌, ◌≤◌, length};
 ghost use Rattle.lifting.specs.Codec.{seq};
 ghost use Rattle.lifting.specs.Grammar.{closed, imms_codec};
 ghost use Rattle.func.specs.Layout.{func_need};
 ghost use Rattle.read_lines.specs.Stores.{Stores};
 ghost use Rattle.read_ctrls.specs.Tails.{ctrl_lists, ctrl_rest};
-ghost use Rattle.read_ctrls.specs.Answers.{kind_of, keep_forms, keep_inst_forms, keep_lists};
+ghost use Rattle.read_ctrls.specs.Answers.{keep_forms, keep_inst_forms, keep_lists};
 
-use func::CtrlKind;
-use func_pools::TARGETS;
+use func_pools::Pool;
 use read_cursor::Cursor;
 use read_insts::{Control, Selection};
 use read_lines::Element;
 use read_lines::elements::{form, list};
-
-// K as the function slice has it.
-pub fn kind_of(kind: Control) -> CtrlKind
-    ensures { result ≡ kind_of kind }
-{
-    match kind {
-        Control::Unreachable => CtrlKind::Unreachable,
-        Control::Return => CtrlKind::Return,
-        Control::Branch => CtrlKind::Branch,
-        Control::Exit(_) => CtrlKind::Exit,
-        Control::Select(k) => match k {
-            Selection::Bool => CtrlKind::Bool,
-            Selection::Inst(_) => CtrlKind::Inst,
-        },
-    }
-}
 
 // ` (ins V..) (to R..)`.
 #[tactic(auto, using(read_lines::specs::Laws::storing), unfolding(crate::specs::Tails::ctrl_lists))]
@@ -38,7 +21,7 @@ fn forms<'a>(func: &mut [u32], from: Cursor<'a>) -> Option<Cursor<'a>>
     ensures func_len_unchanged { length func.new ≡ length func.old }
 {
     let c = form(func, b" (ins", Element::Value, from)?;
-    form(func, b" (to", Element::Number(TARGETS), c)
+    form(func, b" (to", Element::Number(Pool::Targets), c)
 }
 
 // The same behind the immediates of an INST.

@@ -3,7 +3,7 @@
 #![tactic(auto)]
 
 pub mod entries; // entries.rt: the entries of a line
-pub mod kinds; // kinds.rt: K of a line, and the lists behind it
+pub mod kinds; // kinds.rt: the lists behind K of a line
 pub mod line; // line.rt: a line, and all lines
 
 use read_insts::Control;

@@ -3,32 +3,32 @@ ghost use Rattle.std.specs.Prelude.{◌≡◌, true, ◌&&◌, ◌+◌, ◌≤�
 ghost use Rattle.lifting.specs.Limits.{max_bytes};
 ghost use Rattle.func.specs.Layout.{func_need};
 ghost use Rattle.read_cursor.specs.Answers.{ReadsOn};
+ghost use Rattle.read_insts.specs.Kinds.{kind_of};
 ghost use Rattle.func.specs.Kinds.{ctrl_kind_number};
 ghost use Rattle.func.specs.Rows.{ctrl_row_from};
 ghost use Rattle.work.specs.Layout.{work_need};
 ghost use Rattle.check_edges.specs.Edges.{targets_fit};
 ghost use Rattle.read_ctrls.specs.Judge.{keep_judged};
 ghost use Rattle.read_ctrls.specs.Tails.{ctrl_head, ctrl_tail};
-ghost use Rattle.read_ctrls.specs.Answers.{StoresWith, state_at, kind_of};
+ghost use Rattle.read_ctrls.specs.Answers.{StoresWith, state_at};
 ghost use Rattle.check_ctrls.specs.Judged.{opcode_in, judged_with};
 ghost use Rattle.read_ctrls.specs.Whole.{LinesAre, CtrlsAre};
 
 use crate::entries::edges;
-use crate::kinds::{kind_of, lists};
+use crate::kinds::lists;
 use crate::{CtrlHead, CtrlsFit};
 use check_ctrls::{Judged, judge, opcode_in};
 use check_edges::targets_fit;
-use check_limits::both;
-use func::Marks;
+use func::{CtrlKind, Marks};
 use read_cursor::Cursor;
-use read_fields::pair_after;
+use read_fields::pair;
 use read_insts::controls::control;
 
 // `(ctrl R A K`, an INST up to its opcode.
 fn head(from: Cursor<'_>) -> Option<(CtrlHead, Cursor<'_>)>
     ensures { ReadsOn ctrl_head.read from.entry result }
 {
-    let ((region, attrs), c) = pair_after(from, b"(ctrl")?;
+    let ((region, attrs), c) = pair(from.word(b"(ctrl")?)?;
     let (kind, d) = control(c)?;
     Some((
         CtrlHead {
@@ -65,10 +65,10 @@ fn line_end(
         end,
         region,
         attrs,
-        kind_of(kind),
+        CtrlKind::from(kind),
         opcode_in(kind),
     );
-    judge(seen, kind, both(fit, to))
+    judge(seen, kind, fit && to)
 }
 
 // A line, behind its head.

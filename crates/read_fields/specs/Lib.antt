@@ -1,2 +1,3 @@
 -- What the answers of the readers of fields say was found.
 pub mod Answers
+pub mod Joins

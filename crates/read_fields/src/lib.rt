@@ -1,17 +1,39 @@
-// Reads numbers, each behind a space, a bracket or a literal and up to a closing bracket; `(A T)`, and an immediate. The promise of each is
-// the grammar's own reader for that form.
+// Reads numbers, each behind a space or a bracket and up to a closing bracket; `(A T)`, and an immediate. The promise of each is
+// the grammar's own reader for that form, and a body says what the form's line of the grammar says.
 #![tactic(auto, using(read_cursor::specs::Chains::chains))]
 
-ghost use Rattle.std.specs.Prelude.{◌≤◌, length};
 ghost use Rattle.lifting.specs.Codec.{seq};
 ghost use Rattle.lifting.specs.Grammar.{field, open1, one_codec, two, decl, imm_codec};
-ghost use Rattle.read_cursor.specs.Read.{behind_literal};
 ghost use Rattle.read_cursor.specs.Answers.{ReadsOn, ReadsAs};
 ghost use Rattle.read_fields.specs.Answers.{as_decl, as_imm};
+ghost use Rattle.read_fields.specs.Joins.{Closes, Follows};
 
 use read_cursor::Cursor;
 
-// A number after a space.
+// What was found, where a closing bracket follows.
+fn closed<T: Drop>(found: Option<(T, Cursor<'_>)>) -> Option<(T, Cursor<'_>)>
+    ensures { Closes found.entry result }
+{
+    let (x, c) = found?;
+    let d = c.close()?;
+    Some((x, d))
+}
+
+// What was found, and what `next` reads behind it.
+fn then<'a, A: Drop, B, F: Fn(Cursor<'a>) -> Option<(B, Cursor<'a>)>>(
+    found: Option<(A, Cursor<'a>)>,
+    next: F,
+) -> Option<((A, B), Cursor<'a>)>
+    requires { F.IsAlwaysCallable next }
+    ensures { Follows (F.post next) found.entry result }
+{
+    let (a, c) = found?;
+    let (b, d) = next(c)?;
+    Some(((a, b), d))
+}
+
+// A number after a space. This and the next differ in their byte alone; taking it as an argument, one function would ask of its callers that it
+// is no digit, as the grammar's `num` does.
 #[tactic(auto, using(read_cursor::specs::Chains::chains), unfolding(lifting::specs::Grammar::field))]
 pub fn field(from: Cursor<'_>) -> Option<(u32, Cursor<'_>)>
     ensures { ReadsOn field.read from.entry result }
@@ -31,29 +53,23 @@ pub fn opened(from: Cursor<'_>) -> Option<(u32, Cursor<'_>)>
 pub fn pair(from: Cursor<'_>) -> Option<((u32, u32), Cursor<'_>)>
     ensures { ReadsOn (seq field field).read from.entry result }
 {
-    let (m, c) = field(from)?;
-    let (n, d) = field(c)?;
-    Some(((m, n), d))
+    then(field(from), field)
 }
 
 // ` N)`.
-#[tactic(auto, using(read_cursor::specs::Chains::chains), unfolding(lifting::specs::Grammar::one_codec))]
+#[tactic(auto, using(crate::specs::Joins::closes_reads), unfolding(lifting::specs::Grammar::one_codec))]
 pub fn one(from: Cursor<'_>) -> Option<(u32, Cursor<'_>)>
     ensures { ReadsOn one_codec.read from.entry result }
 {
-    let (n, c) = field(from)?;
-    let d = c.close()?;
-    Some((n, d))
+    closed(field(from))
 }
 
 // ` N N)`.
-#[tactic(auto, using(read_cursor::specs::Chains::chains), unfolding(lifting::specs::Grammar::two))]
+#[tactic(auto, using(crate::specs::Joins::closes_reads), unfolding(lifting::specs::Grammar::two))]
 pub fn two(from: Cursor<'_>) -> Option<((u32, u32), Cursor<'_>)>
     ensures { ReadsOn two.read from.entry result }
 {
-    let (x, c) = pair(from)?;
-    let d = c.close()?;
-    Some((x, d))
+    closed(pair(from))
 }
 
 // ` (A T)`: attributes and type.
@@ -61,10 +77,7 @@ pub fn two(from: Cursor<'_>) -> Option<((u32, u32), Cursor<'_>)>
 pub fn decl(from: Cursor<'_>) -> Option<((u32, u32), Cursor<'_>)>
     ensures { ReadsAs as_decl decl.read from.entry result }
 {
-    let (attrs, c) = opened(from.skip_space()?)?;
-    let (ty, d) = field(c)?;
-    let e = d.close()?;
-    Some(((attrs, ty), e))
+    closed(then(opened(from.skip_space()?), field))
 }
 
 // ` (kind operandkind word)`.
@@ -72,24 +85,5 @@ pub fn decl(from: Cursor<'_>) -> Option<((u32, u32), Cursor<'_>)>
 pub fn imm(from: Cursor<'_>) -> Option<((u32, (u32, u32)), Cursor<'_>)>
     ensures { ReadsAs as_imm imm_codec.read from.entry result }
 {
-    let (kind, c) = opened(from.skip_space()?)?;
-    let (rest, d) = pair(c)?;
-    let e = d.close()?;
-    Some(((kind, rest), e))
-}
-
-// A literal, and a number after a space.
-pub fn after<'a>(from: Cursor<'a>, s: &[u8]) -> Option<(u32, Cursor<'a>)>
-    requires { 1 ≤ length s.now }
-    ensures { ReadsOn (behind_literal s.now field.read) from.entry result }
-{
-    field(from.word(s)?)
-}
-
-// A literal, and two numbers, each after a space.
-pub fn pair_after<'a>(from: Cursor<'a>, s: &[u8]) -> Option<((u32, u32), Cursor<'a>)>
-    requires { 1 ≤ length s.now }
-    ensures { ReadsOn (behind_literal s.now (seq field field).read) from.entry result }
-{
-    pair(from.word(s)?)
+    closed(then(opened(from.skip_space()?), pair))
 }

@@ -6,7 +6,7 @@ ghost use Rattle.read_lines.specs.Stores.{Stores};
 ghost use Rattle.read_lines.specs.Tails.{region_lists, region_tail};
 ghost use Rattle.read_lines.specs.Keepers.{keep_region_lists};
 
-use func_pools::NODE_REFS;
+use func_pools::Pool;
 use read_cursor::Cursor;
 use read_lines::Element;
 use read_lines::elements::{form, list};
@@ -20,7 +20,7 @@ fn region_lists<'a>(func: &mut [u32], from: Cursor<'a>) -> Option<Cursor<'a>>
     ensures func_len_unchanged { length func.new ≡ length func.old }
 {
     let a = list(func, Element::Decl, from)?;
-    let b = form(func, b" (nodes", Element::Number(NODE_REFS), a)?;
+    let b = form(func, b" (nodes", Element::Number(Pool::NodeRefs), a)?;
     out_form(func, b)
 }
 

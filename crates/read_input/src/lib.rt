@@ -1,5 +1,5 @@
 // How much of its input a program reads: as much as decides what it prints. The decision is a function of the bytes that were read, and the room for
-// them is asked of the caller.
+// them is asked of the caller: there is no heap, so that the input stands in a lent slice, and how much of it was read beside it.
 #![tactic(auto)]
 
 ghost use Rattle.std.specs.Prelude.{◌≡◌, ◌⊎◌, ℕ, ◌+◌, ◌≤◌, ◌<◌, IfOk, OnErr, IsTrue, length, take, drop};

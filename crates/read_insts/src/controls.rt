@@ -1,10 +1,12 @@
 // K of a select and K of a ctrl.
-ghost use Rattle.lifting.specs.Grammar.{sub};
+ghost use Rattle.std.specs.Prelude.{◌≡◌};
 ghost use Rattle.read_cursor.specs.Answers.{ReadsOn};
-ghost use Rattle.read_insts.specs.Heads.{inst_head, selection_head, control_head};
+ghost use Rattle.read_insts.specs.Heads.{selection_head, control_head};
+ghost use Rattle.read_insts.specs.Kinds.{kind_of};
 
 use crate::ops::inst;
 use crate::{Control, Selection};
+use func::CtrlKind;
 use read_cursor::Cursor;
 
 // K of a select: ` bool`, or an INST up to its opcode.
@@ -17,14 +19,6 @@ pub fn selection(from: Cursor<'_>) -> Option<(Selection, Cursor<'_>)>
     }
     let (n, c) = inst(from)?;
     Some((Selection::Inst(n), c))
-}
-
-// ` (exit (inst OP`.
-#[tactic(auto, using(read_cursor::specs::Chains::chains))]
-fn exit(from: Cursor<'_>) -> Option<(u32, Cursor<'_>)>
-    ensures { ReadsOn (sub "exit" inst_head).read from.entry result }
-{
-    inst(from.word(b" (exit")?)
 }
 
 // K of a ctrl, an INST up to its opcode.
@@ -41,9 +35,27 @@ pub fn control(from: Cursor<'_>) -> Option<(Control, Cursor<'_>)>
     if let Some(c) = from.word(b" branch") {
         return Some((Control::Branch, c));
     }
-    if let Some((n, c)) = exit(from) {
+    if let Some((n, c)) = from.word(b" (exit").and_then(inst) {
         return Some((Control::Exit(n), c));
     }
     let (k, c) = selection(from)?;
     Some((Control::Select(k), c))
+}
+
+// K as the function slice has it.
+impl From<Control> for CtrlKind {
+    fn from(control: Control) -> Self
+        ensures { result ≡ kind_of control }
+    {
+        match control {
+            Control::Unreachable => CtrlKind::Unreachable,
+            Control::Return => CtrlKind::Return,
+            Control::Branch => CtrlKind::Branch,
+            Control::Exit(_) => CtrlKind::Exit,
+            Control::Select(k) => match k {
+                Selection::Bool => CtrlKind::Bool,
+                Selection::Inst(_) => CtrlKind::Inst,
+            },
+        }
+    }
 }

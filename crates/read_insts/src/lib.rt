@@ -15,7 +15,7 @@ pub struct Op {
     pub kind: OpKind,
 }
 
-// What a selection goes by: `bool`, or an INST's opcode, whose immediates follow.
+// What a selection goes by: `bool`, or an INST's opcode, whose immediates follow. Two kinds of selection, so no Option: `bool` is no missing INST.
 #[derive(Clone, Copy)]
 pub enum Selection {
     Bool,

@@ -3,7 +3,7 @@
 --     keep_element, PoolPlaced        what stores one; the pool of a number has entries of one word
 --     listing                    a list is any number of elements, and then a closing bracket
 --     pool_placed, element_..         a kind that is known to be this one
-use Rattle.std.specs.Prelude.{◌≡◌, refl, List, ◌++◌, ℕ, ◌<◌}
+use Rattle.std.specs.Prelude.{◌≡◌, refl, List, ◌++◌, ℕ}
 use Rattle.std.proofs.Common.{sym, subst}
 use Rattle.std.proofs.Math.Option.{none}
 use Rattle.read_cursor.specs.Answers.{Missed}
@@ -14,8 +14,10 @@ use Rattle.lifting.specs.Codec.{Codec, Led, strip, lit, num, seq, view_as, same,
 use Rattle.lifting.specs.Grammar.{before, sub, spaced, field, numbers_codec, decl_codec, decl, decls_codec, value_codec, value_form, values_codec, imm_codec, imms_codec}
 use Rattle.lifting.proofs.Codec.{Inverse, list_more}
 use Rattle.lifting.proofs.Grammar.{decl_inverse, field_inverse, imm_codec_inverse, value_codec_inverse}
-use Rattle.func.specs.Layout.{pool_total, entry_words}
+use Rattle.func.specs.Layout.{entry_words}
 use Rattle.func.specs.Keep.{keep_decl, keep_value, keep_imm, keep_number}
+use Rattle.func_pools.specs.declared.Pool.{Pool}
+use Rattle.func_pools.specs.Pools.{pool_number}
 use Rattle.read_lines.specs.declared.Element.{Element}
 use Rattle.read_lines.specs.declared.Element.TheVariants.{Number, Value, Decl, Imm}
 use Rattle.read_lines.specs.Stores.{Listing, Stored}
@@ -39,18 +41,18 @@ element_list Decl = decls_codec
 element_list Imm = imms_codec
 
 abbrev pub keep_element : (e : Element) → Held e → List ℕ → List ℕ
-keep_element (Number k) = keep_number k
+keep_element (Number k) = keep_number (pool_number k)
 keep_element Value = keep_value
 keep_element Decl = keep_decl
 keep_element Imm = keep_imm
 
 abbrev pub PoolPlaced : Element → Type 0
-PoolPlaced (Number k) = (k < pool_total) × (entry_words k ≡ 1)
+PoolPlaced (Number k) = entry_words (pool_number k) ≡ 1
 PoolPlaced Value = Unit {0}
 PoolPlaced Decl = Unit {0}
 PoolPlaced Imm = Unit {0}
 
-pub pool_placed : {e : Element} {k : ℕ} → e ≡ Number k → PoolPlaced e → (k < pool_total) × (entry_words k ≡ 1)
+pub pool_placed : {e : Element} {k : Pool} → e ≡ Number k → PoolPlaced e → entry_words (pool_number k) ≡ 1
 pool_placed e p = subst PoolPlaced e p
 
 -- a list as the grammar has it

@@ -14,7 +14,7 @@ use Rattle.std.proofs.Math.ListN.{drop}
 use Prim.Native.String.{String}
 use Rattle.lifting.specs.Bytes.{bytes}
 use Rattle.lifting.specs.Digits.{Reading}
-use Rattle.lifting.specs.Codec.{Codec, Led, then, up, strip, strip_sound, seq, same}
+use Rattle.lifting.specs.Codec.{Codec, Led, then, up, strip, strip_sound, seq}
 use Rattle.lifting.specs.Grammar.{before, after_word, sub, closed}
 use Rattle.read_cursor.specs.Read.{literal, behind_literal}
 use Rattle.read_cursor.specs.Begins.{go_on}

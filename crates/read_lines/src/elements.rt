@@ -7,6 +7,7 @@ ghost use Rattle.read_lines.specs.Stores.{Stores};
 ghost use Rattle.read_lines.specs.Elements.{element_of, element_list, keep_element, PoolPlaced};
 
 use crate::Element;
+use func_pools::Pool;
 use read_cursor::Cursor;
 use read_fields::{decl, field, imm};
 use read_values::value;
@@ -32,7 +33,7 @@ pub fn element<'a>(func: &mut [u32], what: Element, from: Cursor<'a>) -> Option<
         }
         Element::Decl => {
             let ((attrs, ty), c) = decl(from)?;
-            func_store::keep_decl(func, attrs, ty);
+            func_store::keep_pair(func, Pool::Decls, attrs, ty);
             Some(c)
         }
         Element::Imm => {

@@ -8,7 +8,7 @@ ghost use Rattle.read_lines.specs.Keepers.{keep_loop_lists};
 ghost use Rattle.read_lines.specs.Nodes.{node_tail};
 
 use func::NodeKind;
-use func_pools::{CHILD_REFS, OP_REFS};
+use func_pools::Pool;
 use read_cursor::Cursor;
 use read_fields::field;
 use read_insts::ops::inst;
@@ -25,7 +25,7 @@ pub fn block_line<'a>(func: &mut [u32], from: Cursor<'a>) -> Option<Cursor<'a>>
     ensures func_len_unchanged { length func.new ≡ length func.old }
 {
     let marks = func_store::begin(func);
-    let c = list(func, Element::Number(OP_REFS), from)?;
+    let c = list(func, Element::Number(Pool::OpRefs), from)?;
     let d = c.word(b"\n")?;
     func_store::node_row(func, marks, NodeKind::Block, 0, 0);
     Some(d)
@@ -54,7 +54,7 @@ pub fn loop_line<'a>(func: &mut [u32], from: Cursor<'a>) -> Option<Cursor<'a>>
     let (r, c) = field(from)?;
     let d = loop_lists(func, c)?;
     let (u, e) = control_end(d)?;
-    func_store::keep_number(func, CHILD_REFS, r);
+    func_store::keep_number(func, Pool::ChildRefs, r);
     func_store::node_row(func, marks, NodeKind::Loop, 0, u);
     Some(e)
 }

@@ -10,7 +10,7 @@ ghost use Rattle.read_lines.specs.Tails.{select_lists, select_rest, select_tail}
 ghost use Rattle.read_lines.specs.Keepers.{keep_select_lists, keep_node_lists, select_number, select_opcode};
 
 use func::{Marks, NodeKind};
-use func_pools::CHILD_REFS;
+use func_pools::Pool;
 use read_cursor::Cursor;
 use read_insts::Selection;
 use read_insts::controls::selection;
@@ -28,7 +28,7 @@ fn select_lists<'a>(func: &mut [u32], from: Cursor<'a>) -> Option<Cursor<'a>>
     let Some(c) = element(func, Element::Value, from) else {
         return None;
     };
-    let d = form(func, b" (cases", Element::Number(CHILD_REFS), c)?;
+    let d = form(func, b" (cases", Element::Number(Pool::ChildRefs), c)?;
     form(func, b" (outs", Element::Decl, d)
 }
 

@@ -10,7 +10,7 @@ use mathlib.Core.List.{List, [], ◌∷◌, ◌++◌}
 use Rattle.std.proofs.Math.Option.{Option, none, some, some-injective, none-ne-some}
 use Rattle.lifting.specs.Bytes.{bytes}
 use Rattle.lifting.specs.Digits.{Reading}
-use Rattle.lifting.specs.Codec.{Whole, then, onto, both_of, second, strip, strip_sound, lit, seq, view_as, same, alt}
+use Rattle.lifting.specs.Codec.{then, onto, both_of, second, strip, strip_sound, lit, seq, view_as, same, alt}
 use Rattle.lifting.specs.Whole.{read_whole}
 use Rattle.lifting.specs.Ast.{Const, Decl, Region, ControlInst, Func}
 use Rattle.lifting.specs.Grammar.{before, line, Regions, region_line, region_lines, node_lines, op_lines, ctrl_lines, rest_form, rest_lines, func_line, TextForm, const_lines, param_lines, text, read, opened, to_func}

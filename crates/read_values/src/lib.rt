@@ -11,7 +11,7 @@ ghost use Rattle.read_values.specs.Part.{value_parts, value_part};
 
 use func::Val;
 use read_cursor::Cursor;
-use read_fields::{after, pair_after};
+use read_fields::{field, pair};
 use read_forms::form;
 
 // What stands between a value's brackets: `c N`, `r R I`, `n N I` or `d I`.
@@ -19,16 +19,16 @@ use read_forms::form;
 fn words(from: Cursor<'_>) -> Option<(Val, Cursor<'_>)>
     ensures { ReadsAs form_of value_parts.read from.entry result }
 {
-    if let Some((n, c)) = after(from, b"c") {
+    if let Some((n, c)) = from.word(b"c").and_then(field) {
         return Some((Val::Const(n), c));
     }
-    if let Some(((m, n), c)) = pair_after(from, b"r") {
+    if let Some(((m, n), c)) = from.word(b"r").and_then(pair) {
         return Some((Val::Input(m, n), c));
     }
-    if let Some(((m, n), c)) = pair_after(from, b"n") {
+    if let Some(((m, n), c)) = from.word(b"n").and_then(pair) {
         return Some((Val::Output(m, n), c));
     }
-    let (n, c) = after(from, b"d")?;
+    let (n, c) = field(from.word(b"d")?)?;
     Some((Val::Result(n), c))
 }
 

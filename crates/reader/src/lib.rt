@@ -1,4 +1,5 @@
-// From the lent text to the tables in the function slice, or a refusal: the one entry of the reader. It asks nothing of its caller.
+// From the lent text to the tables in the function slice, or a refusal: the one entry of the reader. It asks nothing of its caller. The slices' lengths are
+// what refusal 8 tests, so that they are clauses and no type's.
 #![tactic(auto)]
 
 ghost use Rattle.std.specs.Prelude.{◌≡◌, ◌≤◌, length};

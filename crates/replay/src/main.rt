@@ -51,7 +51,7 @@ fn step<R: Read, W: Write>(
     refilled(reader, buffer, state)
 }
 
-// A proved loop has to end, so it counts its turns down, from a number that no run uses up.
+// Case by case, to the end of the batch. A proved loop has to end, so its turns are bounded, by a number that no run uses up.
 fn all<R: Read, W: Write>(
     reader: &mut R,
     writer: &mut W,
@@ -61,11 +61,12 @@ fn all<R: Read, W: Write>(
     requires { length buffer.old ≡ 65536 }
     ensures printed { OnOk result (IfSome (R.remaining reader.old) (λ batch. line_room + input_room + length end_mark ≤ length text.old → length batch < 2 ^ 63 → Appends (W.contents writer.old) (W.contents writer.new) (batch_bytes batch))) }
 {
-    let mut turns = u64::MAX;
     let mut state = read_cases::start();
-    while turns > 0 && state.more {
+    for _ in 0..u64::MAX {
+        if !state.more {
+            break;
+        }
         state = step(reader, writer, buffer, text, state)?;
-        turns -= 1;
     }
     Ok(())
 }

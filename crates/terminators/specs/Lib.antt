@@ -3,5 +3,6 @@ pub mod Laws
 pub mod Labels
 pub mod At
 pub mod Visited
+pub mod Plain
 pub mod Kinds
 pub mod Edges

@@ -1,5 +1,6 @@
 // The walk over a checked function: the region walk and the node walk call each other, and each point that they visit is appended to the order,
-// as a number in the work slice. Below a region stand its nodes, below a node its regions, and the checked tree ends the walk.
+// as a number in the work slice. Below a region stand its nodes, below a node its regions, and the checked tree ends the walk. Function and work slice are
+// two parameters, since only the second is written.
 #![tactic(auto)]
 
 pub mod parents;
@@ -10,7 +11,6 @@ ghost use Rattle.lifting.specs.Order.{roots};
 ghost use Rattle.lifting.specs.Points.{points};
 ghost use Rattle.lifting.specs.Walk.{walk_of};
 ghost use Rattle.func.specs.Decode.{func_of};
-ghost use Rattle.func.specs.Tables.{Tables};
 ghost use Rattle.work.specs.Layout.{roots_end, points_at, points_end, work_need};
 ghost use Rattle.walk_roots.specs.Tables.{Indexed};
 ghost use Rattle.walk_roots.specs.Visit.{last_roots};
@@ -21,7 +21,7 @@ ghost use Rattle.walk_points.specs.Walk.{Walkable, PointsReady, Walked};
 ghost use Rattle.walk_points.specs.Words.{WalkWords};
 
 use crate::parents::parents;
-use func_look::{node_child, node_child_count, region_node, region_node_count};
+use func_look::Function;
 use walk_roots::walk::reached;
 use work::{POINTS, ROOTS_END};
 
@@ -40,7 +40,7 @@ fn put(work: &mut [u32], m: usize, p: usize) -> usize
 
 // The points of region r are visited after m others: how many there are then.
 #[cycle(walk_node_walk_region)]
-fn walk_region(func: &[u32], work: &mut [u32], r: usize, m: usize) -> usize
+fn walk_region(func: &Function, work: &mut [u32], r: usize, m: usize) -> usize
     requires points_ready { PointsReady func.now work.old m (length (region_words (func_of func.now) r)) }
     requires r_in_bounds { r < length (func_of func.now).regions }
     ensures value { result ≡ m + length (region_words (func_of func.now) r) }
@@ -48,15 +48,15 @@ fn walk_region(func: &[u32], work: &mut [u32], r: usize, m: usize) -> usize
     ensures work_len_unchanged { length work.new ≡ length work.old }
 {
     let mut at = put(work, m, 2 * r);
-    for i in 0..region_node_count(func, r) {
-        at = walk_node(func, work, region_node(func, r, i), at);
+    for i in 0..func.region_node_count(r) {
+        at = walk_node(func, work, func.region_node(r, i), at);
     }
     put(work, at, 2 * r + 1)
 }
 
 // The points of node n are visited after m others: how many there are then.
 #[cycle(walk_node_walk_region)]
-fn walk_node(func: &[u32], work: &mut [u32], n: usize, m: usize) -> usize
+fn walk_node(func: &Function, work: &mut [u32], n: usize, m: usize) -> usize
     requires points_ready { PointsReady func.now work.old m (length (node_words (func_of func.now) n)) }
     requires n_in_bounds { n < length (func_of func.now).nodes }
     ensures value { result ≡ m + length (node_words (func_of func.now) n) }
@@ -64,8 +64,8 @@ fn walk_node(func: &[u32], work: &mut [u32], n: usize, m: usize) -> usize
     ensures work_len_unchanged { length work.new ≡ length work.old }
 {
     let mut at = put(work, m, NODE_BASE + 2 * n);
-    for i in 0..node_child_count(func, n) {
-        at = walk_region(func, work, node_child(func, n, i), at);
+    for i in 0..func.node_child_count(n) {
+        at = walk_region(func, work, func.node_child(n, i), at);
     }
     put(work, at, NODE_BASE + 2 * n + 1)
 }
@@ -79,14 +79,14 @@ fn root(work: &[u32], n: usize, i: usize) -> usize
 }
 
 // The points of the n roots that stand at the end of their table: how many there are.
-fn walk_roots(func: &[u32], work: &mut [u32], n: usize) -> usize
-    requires tables { Tables func.now }
+fn walk_roots(func: &Function, work: &mut [u32], n: usize) -> usize
     requires walkable { Walkable (func_of func.now) }
     requires points_end_in_bounds { points_end ≤ length work.old }
     requires n_value { (last_roots work.old n ≡ roots (func_of func.now)) × (n ≤ length (func_of func.now).regions) }
     ensures walked { Walked (func_of func.now) work.old work.new result }
     ensures work_len_unchanged { length work.new ≡ length work.old }
 {
+    func.known();
     let mut at = 0;
     for i in 0..n {
         at = walk_region(func, work, root(work, n, i), at);
@@ -96,8 +96,7 @@ fn walk_roots(func: &[u32], work: &mut [u32], n: usize) -> usize
 
 // The points in the order of the walk: how many they are. Their numbers stand in the work slice, with the parents of regions and the
 // ctrl lines by region. Behind the tables of the control-flow walk no other word is written.
-pub fn walk(func: &[u32], work: &mut [u32]) -> usize
-    requires tables { Tables func.now }
+pub fn walk(func: &Function, work: &mut [u32]) -> usize
     requires walkable { Walkable (func_of func.now) }
     requires work_need_in_bounds { work_need ≤ length work.old }
     ensures value { result ≡ length (walk_of (func_of func.now)) }
@@ -108,6 +107,7 @@ pub fn walk(func: &[u32], work: &mut [u32]) -> usize
     ensures walk_words { WalkWords (func_of func.now) work.old work.new }
     ensures work_len_unchanged { length work.new ≡ length work.old }
 {
+    func.known();
     let n = reached(func, work);
     parents(func, work);
     walk_roots(func, work, n)

@@ -2,15 +2,15 @@
 // Each is filled in one pass over the text, so that a region is looked up by one read.
 ghost use Rattle.std.specs.Prelude.{◌≡◌, List, [], ◌++◌, ℕ, ◌+◌, ◌≤◌, ◌<◌, eqb, length, get_or, set};
 ghost use Rattle.general_laws.specs.Lists.{distinct, keys};
+ghost use Rattle.lifting.specs.Ast.{Func};
 ghost use Rattle.lifting.specs.Parts.{node_of, children_of, child_list};
 ghost use Rattle.func.specs.Decode.{func_of};
-ghost use Rattle.func.specs.Tables.{Tables};
 ghost use Rattle.func.specs.Search.{CtrlIs};
 ghost use Rattle.work.specs.Layout.{lines_at, children_at, marks_at, tables_end};
 ghost use Rattle.work.specs.Aside.{Aside};
 ghost use Rattle.walk_roots.specs.Tables.{RegionsNamed, TablesBlank, Indexed, RegionsMarked};
 
-use func_look::{ctrl_region, ctrl_total, node_child, node_child_count, node_total};
+use func_look::Function;
 use work::{CHILDREN, LINES, TABLES_END, clear};
 
 // Line c is region r's: whether no later line is.
@@ -26,8 +26,7 @@ fn put_line(work: &mut [u32], r: usize, c: usize) -> bool
 }
 
 // The lines from the last to the first, so that a region's first line stays: whether no region has two.
-fn put_lines(func: &[u32], work: &mut [u32]) -> bool
-    requires tables { Tables func.now }
+fn put_lines(func: &Function, work: &mut [u32]) -> bool
     requires regions_named { RegionsNamed (func_of func.now) }
     requires tables_end_in_bounds { (tables_end ≤ length work.old) × TablesBlank work.old }
     ensures value { result ≡ distinct (keys (func_of func.now).ctrls) }
@@ -35,9 +34,10 @@ fn put_lines(func: &[u32], work: &mut [u32]) -> bool
     ensures aside { Aside lines_at children_at work.old work.new }
     ensures work_len_unchanged { length work.new ≡ length work.old }
 {
+    func.known();
     let mut once = true;
-    for i in (0..ctrl_total(func)).rev() {
-        let r = ctrl_region(func, i);
+    for i in (0..func.ctrl_total()).rev() {
+        let r = func.ctrl_region(i);
         if !put_line(work, r, i) {
             once = false;
         }
@@ -46,8 +46,7 @@ fn put_lines(func: &[u32], work: &mut [u32]) -> bool
 }
 
 // The table of ctrl lines by region stands, and no region is marked: whether no region has two lines.
-pub fn index(func: &[u32], work: &mut [u32]) -> bool
-    requires tables { Tables func.now }
+pub fn index(func: &Function, work: &mut [u32]) -> bool
     requires regions_named { RegionsNamed (func_of func.now) }
     requires tables_end_in_bounds { tables_end ≤ length work.old }
     ensures value { result ≡ distinct (keys (func_of func.now).ctrls) }
@@ -60,40 +59,39 @@ pub fn index(func: &[u32], work: &mut [u32]) -> bool
     put_lines(func, work)
 }
 
-// The ctrl line of region r, if it has one. The table says so; the contract names the function.
-pub fn ctrl_at(func: &[u32], work: &[u32], r: usize) -> Option<usize>
-    requires indexed { Indexed (func_of func.now) work.now }
-    requires r_bound { (r < 128) × (tables_end ≤ length work.now) }
-    ensures { CtrlIs result (func_of func.now) r }
+// The ctrl line of region r, if it has one, of whatever function the table is.
+pub fn ctrl_at(work: &[u32], r: usize) -> Option<usize>
+    requires { (r < 128) × (tables_end ≤ length work.now) }
+    ensures { (F : Func) → Indexed F work.now → CtrlIs result F r }
 {
     (work[LINES + r] as usize).checked_sub(1)
 }
 
 // The children of node n are marked.
-fn mark_node(func: &[u32], n: usize, work: &mut [u32])
-    requires tables { Tables func.now }
+fn mark_node(func: &Function, n: usize, work: &mut [u32])
     requires regions_named { RegionsNamed (func_of func.now) }
     requires n_in_bounds { (n < length (func_of func.now).nodes) × (tables_end ≤ length work.old) }
     ensures by_index { (l : List ℕ) → RegionsMarked children_at l work.old → RegionsMarked children_at (children_of (node_of (func_of func.now) n) ++ l) work.new }
     ensures aside { Aside children_at marks_at work.old work.new }
     ensures work_len_unchanged { length work.new ≡ length work.old }
 {
-    for i in (0..node_child_count(func, n)).rev() {
-        let r = node_child(func, n, i);
+    func.known();
+    for i in (0..func.node_child_count(n)).rev() {
+        let r = func.node_child(n, i);
         work[CHILDREN + r] = 1;
     }
 }
 
 // The children of each node are.
-pub fn mark_nodes(func: &[u32], work: &mut [u32])
-    requires tables { Tables func.now }
+pub fn mark_nodes(func: &Function, work: &mut [u32])
     requires regions_named { RegionsNamed (func_of func.now) }
     requires tables_end_in_bounds { (tables_end ≤ length work.old) × RegionsMarked children_at [] work.old }
     ensures regions_marked { RegionsMarked children_at (child_list (func_of func.now)) work.new }
     ensures aside { Aside children_at marks_at work.old work.new }
     ensures work_len_unchanged { length work.new ≡ length work.old }
 {
-    for i in (0..node_total(func)).rev() {
+    func.known();
+    for i in (0..func.node_total()).rev() {
         mark_node(func, i, work);
     }
 }

@@ -3,39 +3,36 @@
 ghost use Rattle.std.specs.Prelude.{◌≡◌, [], ◌+◌, ◌-◌, ◌≤◌, ◌<◌, length, get_or, set};
 ghost use Rattle.lifting.specs.Order.{roots};
 ghost use Rattle.func.specs.Decode.{func_of};
-ghost use Rattle.func.specs.Tables.{Tables};
 ghost use Rattle.work.specs.Layout.{roots_end, marks_at, tables_end, work_need};
 ghost use Rattle.work.specs.Aside.{Aside};
 ghost use Rattle.walk_roots.specs.Tables.{RegionsNamed, Indexed, RegionsMarked};
 ghost use Rattle.walk_roots.specs.Visit.{ways, last_roots, RootsLow, WalkReady, RootsVisited};
 
 use crate::tables::{ctrl_at, index};
-use func_look::{target, target_count};
+use func_look::Function;
 use work::{MARKS, ROOTS_END, word};
 
 // How many targets root r has.
-fn way_count(func: &[u32], work: &[u32], r: usize) -> usize
-    requires tables { Tables func.now }
+fn way_count(func: &Function, work: &[u32], r: usize) -> usize
     requires indexed { Indexed (func_of func.now) work.now }
     requires r_bound { (r < 128) × (tables_end ≤ length work.now) }
     ensures { result ≡ length (ways (func_of func.now) r) }
 {
-    match ctrl_at(func, work, r) {
-        Some(c) => target_count(func, c),
+    match ctrl_at(work, r) {
+        Some(c) => func.target_count(c),
         None => 0,
     }
 }
 
 // Target i of root r.
-fn way(func: &[u32], work: &[u32], r: usize, i: usize) -> usize
-    requires tables { Tables func.now }
+fn way(func: &Function, work: &[u32], r: usize, i: usize) -> usize
     requires indexed { Indexed (func_of func.now) work.now }
     requires r_bound { (r < 128) × (tables_end ≤ length work.now) }
     requires i_in_bounds { i < length (ways (func_of func.now) r) }
     ensures { result ≡ get_or (ways (func_of func.now) r) i 0 }
 {
-    match ctrl_at(func, work, r) {
-        Some(c) => target(func, c, i),
+    match ctrl_at(work, r) {
+        Some(c) => func.target(c, i),
         None => 0,
     }
 }
@@ -59,7 +56,7 @@ fn leave(work: &mut [u32], n: usize, r: usize) -> usize
 }
 
 // Walks from root r, which is not marked, with n roots done: how many are done then.
-fn visit(func: &[u32], work: &mut [u32], r: usize, n: usize) -> usize
+fn visit(func: &Function, work: &mut [u32], r: usize, n: usize) -> usize
     requires { WalkReady func.now work.old r n }
     ensures roots_visited { RootsVisited (func_of func.now) work.old r n work.new result }
     ensures work_len_unchanged { length work.new ≡ length work.old }
@@ -76,8 +73,7 @@ fn visit(func: &[u32], work: &mut [u32], r: usize, n: usize) -> usize
 }
 
 // The roots, where the table of ctrl lines stands and none is marked: how many they are.
-pub fn order(func: &[u32], work: &mut [u32]) -> usize
-    requires tables { Tables func.now }
+pub fn order(func: &Function, work: &mut [u32]) -> usize
     requires regions_named { RegionsNamed (func_of func.now) }
     requires regions_nonzero { 0 < length (func_of func.now).regions }
     requires indexed { Indexed (func_of func.now) work.old }
@@ -89,13 +85,13 @@ pub fn order(func: &[u32], work: &mut [u32]) -> usize
     ensures aside { Aside 0 tables_end work.old work.new }
     ensures work_len_unchanged { length work.new ≡ length work.old }
 {
+    func.known();
     visit(func, work, 0, 0)
 }
 
 // The roots: how many they are. They stand at the end of their table, and the ctrl lines by region stand too. Only the tables of the control-flow
 // walk are written.
-pub fn reached(func: &[u32], work: &mut [u32]) -> usize
-    requires tables { Tables func.now }
+pub fn reached(func: &Function, work: &mut [u32]) -> usize
     requires regions_named { RegionsNamed (func_of func.now) }
     requires regions_nonzero { 0 < length (func_of func.now).regions }
     requires work_need_in_bounds { work_need ≤ length work.old }

@@ -1,5 +1,6 @@
 // The work slice: where its tables begin (specs/Layout says what each holds, and that those that stand together lie apart), and how words of it are
-// read and cleared. No crate above names a word by its number.
+// read and cleared. No crate above names a word by its number. The tables share one slice, since it is lent by the caller, in C too, and there is no heap;
+// that it reaches to a table's end stays a clause, by table, as a stage writes some of them and keeps the others.
 #![tactic(auto)]
 
 ghost use Rattle.std.specs.Prelude.{◌≡◌, ◌+◌, ◌≤◌, ◌<◌, length, get_or, replicate};

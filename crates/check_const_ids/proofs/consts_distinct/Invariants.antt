@@ -8,4 +8,4 @@ use Rattle.check_const_ids.specs.Test.{const_ids}
 use Rattle.check_const_ids.proofs.consts_distinct.Given as goal
 
 abbrev pub invariant-loop-i : goal.invariant-loop-i
-invariant-loop-i l = (distinct (drop l.i (const_ids l.func)) ≡ true) × (length l.marks ≡ 2039) × Marked 2039 (const_ids l.func) l.i l.marks
+invariant-loop-i l = (distinct (drop l.i (const_ids l.func.words.now)) ≡ true) × (length l.marks ≡ 2039) × Marked 2039 (const_ids l.func.words.now) l.i l.marks

@@ -7,5 +7,5 @@ use Rattle.check_const_ids.proofs.repeats.Goals as goal
 
 pub returns : goal.returns
 returns c =
-    let x = c.row_const_id-x.ensures ∙ id_at c.args.func.now c.args.i in
-    any_from (get_or (const_ids c.args.func.now) c.args.i 0) (const_ids c.args.func.now) c.any.ensures.ran (omega (arith, c.count-n.ensures, ids_length c.requires.limits_ready)) (λ y b q k. let e = id_at c.args.func.now y in search (rules, tests))
+    let x = c.row_word-x.ensures ∙ id_at c.args.func.now.words.now c.args.i in
+    any_from (get_or (const_ids c.args.func.now.words.now) c.args.i 0) (const_ids c.args.func.now.words.now) c.any.ensures.ran (omega (arith, c.count-n.ensures, ids_length c.args.func.now.ready)) (λ y b q k. let e = id_at c.args.func.now.words.now y in search (rules, tests))

@@ -9,4 +9,4 @@ use Rattle.check_marks.specs.Marks.{mark_all}
 use Rattle.check_cycles.proofs.adopt.Given as goal
 
 abbrev pub invariant-loop-i : goal.invariant-loop-i
-invariant-loop-i l = mark_all (kids l.func l.r) l.v l.initial.work ≡ mark_all (gather (child_refs_in l.func) (pool_numbers node_refs l.func (word regions l.func l.r 1 / 4096 + l.i) (l.n - l.i))) l.v l.work
+invariant-loop-i l = mark_all (kids l.func.words.now l.r) l.v l.initial.work ≡ mark_all (gather (child_refs_in l.func.words.now) (pool_numbers node_refs l.func.words.now (word regions l.func.words.now l.r 1 / 4096 + l.i) (l.n - l.i))) l.v l.work

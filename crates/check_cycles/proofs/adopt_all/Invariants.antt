@@ -4,4 +4,4 @@ use Rattle.check_marks.specs.Marks.{parent_table}
 use Rattle.check_cycles.proofs.adopt_all.Given as goal
 
 abbrev pub invariant-loop-r : goal.invariant-loop-r
-invariant-loop-r l = l.work ≡ parent_table l.func l.r l.initial.work
+invariant-loop-r l = l.work ≡ parent_table l.func.words.now l.r l.initial.work

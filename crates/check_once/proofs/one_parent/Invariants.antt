@@ -13,8 +13,8 @@ use Rattle.check_once.proofs.one_parent.Given as goal
 abbrev pub invariant-children : goal.invariant-children
 invariant-children l =
     (l.once ≡ l.initial.once)
-    × (fresh_marks (gather (child_refs_in l.func) (tabulate (λ k. k) l.n (l.total - l.n))) l.initial.work
-    ≡ fresh_marks (pool_numbers child_refs l.func (word nodes l.func l.n 5 / 4096 + l.i) (l.m - l.i) ++ gather (child_refs_in l.func) (tabulate (λ k. k) (l.n + 1) (l.total - (l.n + 1)))) l.work)
+    × (fresh_marks (gather (child_refs_in l.func.words.now) (tabulate (λ k. k) l.n (l.total - l.n))) l.initial.work
+    ≡ fresh_marks (pool_numbers child_refs l.func.words.now (word nodes l.func.words.now l.n 5 / 4096 + l.i) (l.m - l.i) ++ gather (child_refs_in l.func.words.now) (tabulate (λ k. k) (l.n + 1) (l.total - (l.n + 1)))) l.work)
 
 abbrev pub invariant-nodes : goal.invariant-nodes
-invariant-nodes l = (l.once ≡ true) × (fresh_marks (refs child_refs l.func) l.initial.work ≡ fresh_marks (gather (child_refs_in l.func) (tabulate (λ k. k) l.n (l.total - l.n))) l.work)
+invariant-nodes l = (l.once ≡ true) × (fresh_marks (refs child_refs l.func.words.now) l.initial.work ≡ fresh_marks (gather (child_refs_in l.func.words.now) (tabulate (λ k. k) l.n (l.total - l.n))) l.work)

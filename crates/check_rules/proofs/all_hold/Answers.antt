@@ -9,6 +9,6 @@ use Rattle.check_rules.proofs.all_hold.Goals as goal
 pub returns : goal.returns
 unfolding all_test
 returns c =
-    let w = c.args.func.now in
-    let n = c.count-n.ensures ∙ ap (λ (k : ℕ). count k w) c.pool_for.ensures ∙ sym (rule_length c.requires c.args.rule) in
+    let w = c.args.func.now.words.now in
+    let n = c.count-n.ensures ∙ ap (λ (k : ℕ). count k w) c.pool.ensures ∙ sym (rule_length c.args.func.now.ready c.args.rule) in
     all_of (rule_test w c.args.rule) (view (pool_for c.args.rule) w) [] c.all.ensures.ran n (λ x b q k. search (rules, tests))

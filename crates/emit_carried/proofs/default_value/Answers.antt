@@ -10,6 +10,7 @@ use Rattle.terminators.specs.At.{point_at, visited_block}
 use Rattle.terminators.specs.Kinds.{as_point}
 use Rattle.terminators.specs.Visited.{Visited}
 use native.Mathlib.Omega.{arith}
+use Rattle.terminators.specs.Plain.{visited_plain}
 use Rattle.emit_lists.specs.Edges.{default_here, init_in, init_low, init_value}
 use Rattle.emit_carried.proofs.default_value.Goals as goal
 
@@ -24,17 +25,17 @@ no_default k i h j (NodeExit r) n e = default_here k i h j e refl
 pub overflow_add-j : goal.overflow_add-j
 overflow_add-j c =
     let e = ap as_point (sym c.in-NodeEntry.is) ∙ c.point.ensures in
-    omega (arith, init_low c.requires.visited c.args.i c.requires.i_lt_m c.args.j c.requires.j_in_bounds e)
+    omega (arith, init_low (visited_plain c.args.visits.now.visited) c.args.i c.requires.i_in_bounds c.args.j c.requires.j_in_bounds e)
 
 pub node_value-requires : goal.node_value-requires
 node_value-requires c =
     let e = ap as_point (sym c.in-NodeEntry.is) ∙ c.point.ensures in
-    record { tables = c.requires.visited.tables; n_in_bounds = (init_in c.requires.visited c.args.i c.requires.i_lt_m c.args.j c.requires.j_in_bounds e).0; i_in_bounds = (init_in c.requires.visited c.args.i c.requires.i_lt_m c.args.j c.requires.j_in_bounds e).1 }
+    record { n_in_bounds = (init_in (visited_plain c.args.visits.now.visited) c.args.i c.requires.i_in_bounds c.args.j c.requires.j_in_bounds e).0; i_in_bounds = (init_in (visited_plain c.args.visits.now.visited) c.args.i c.requires.i_in_bounds c.args.j c.requires.j_in_bounds e).1 }
 
 pub returns-in-NodeEntry : goal.returns-in-NodeEntry
 returns-in-NodeEntry c =
     let e = ap as_point (sym c.in-NodeEntry.is) ∙ c.point.ensures in
-    init_value c.requires.visited c.args.i c.requires.i_lt_m c.args.j c.requires.j_in_bounds e c.node_value.ensures
+    init_value (visited_plain c.args.visits.now.visited) c.args.i c.requires.i_in_bounds c.args.j c.requires.j_in_bounds e c.node_value.ensures
 
 pub returns-in_default : goal.returns-in_default
-returns-in_default c = no_default c.requires.visited c.args.i c.requires.i_lt_m c.args.j _ c.in_default.not-NodeEntry c.point.ensures
+returns-in_default c = no_default (visited_plain c.args.visits.now.visited) c.args.i c.requires.i_in_bounds c.args.j _ c.in_default.not-NodeEntry c.point.ensures

@@ -12,10 +12,10 @@ use Rattle.emit_edge_ends.proofs.Ways.{edge_as, edge_case, edge_join, edge_one, 
 use Rattle.emit_edge_ends.proofs.edge_target.Goals as goal
 
 pub line_target-requires : goal.line_target-requires
-line_target-requires c = record { tables = c.requires.known.tables; walkable = (c.requires.known.walkable, c.requires.aimed); c_in_bounds = fits_as c.requires.known c.in-Line.is; k_in_bounds = edge_within (func_of c.args.func.now) c.args.k c.requires.k_in_bounds c.in-Line.is }
+line_target-requires c = record { walkable = (c.requires.known.walkable, c.requires.aimed); c_in_bounds = fits_as c.requires.known c.in-Line.is; k_in_bounds = edge_within (func_of c.args.func.now) c.args.k c.requires.k_in_bounds c.in-Line.is }
 
 pub node_child-requires : goal.node_child-requires
-node_child-requires c = record { tables = c.requires.known.tables; n_in_bounds = fits_as c.requires.known c.in-Select.is; i_in_bounds = (edge_case (func_of c.args.func.now) c.args.k c.requires.k_in_bounds c.in-Select.is).0 }
+node_child-requires c = record { n_in_bounds = fits_as c.requires.known c.in-Select.is; i_in_bounds = (edge_case (func_of c.args.func.now) c.args.k c.requires.k_in_bounds c.in-Select.is).0 }
 
 pub number-requires : goal.number-requires
 number-requires c =

@@ -13,7 +13,7 @@ use Rattle.emit_edge_ends.proofs.line_target.Goals as goal
 pub target-requires : goal.target-requires
 target-requires c =
     let l = (ctrl_line_of (func_of c.args.func.now) c.args.c).1 in
-    record { tables = c.requires.tables; c_in_bounds = c.requires.c_in_bounds; i_in_bounds = (line_sole l c.args.k c.requires.k_in_bounds (sym c.entry_count.ensures ∙ c.if-entry_count-eq0.true)).0 }
+    record { c_in_bounds = c.requires.c_in_bounds; i_in_bounds = (line_sole l c.args.k c.requires.k_in_bounds (sym c.entry_count.ensures ∙ c.if-entry_count-eq0.true)).0 }
 
 pub number-requires : goal.number-requires
 number-requires c =
@@ -34,7 +34,7 @@ returns-then-entry_count-eq0 c =
 pub entry_region-requires : goal.entry_region-requires
 entry_region-requires c =
     let l = (ctrl_line_of (func_of c.args.func.now) c.args.c).1 in
-    record { tables = c.requires.tables; c_in_bounds = c.requires.c_in_bounds; e_in_bounds = (line_entry l c.args.k c.requires.k_in_bounds (λ e. c.if-entry_count-eq0.false (c.entry_count.ensures ∙ e))).0 }
+    record { c_in_bounds = c.requires.c_in_bounds; e_in_bounds = (line_entry l c.args.k c.requires.k_in_bounds (λ e. c.if-entry_count-eq0.false (c.entry_count.ensures ∙ e))).0 }
 
 pub number-requires-2 : goal.number-requires-2
 number-requires-2 c =

@@ -10,8 +10,8 @@ use Rattle.emit_edges.proofs.Linking.{here_count, here_none, here_some}
 use borrow.Author.Rules.{rules}
 use Rattle.emit_edges.proofs.link_at.Goals as goal
 
-pub term_kind-w-requires : goal.term_kind-w-requires
-term_kind-w-requires c = record { visited = c.requires.laid.walked (omega (arith, c.requires.i_lt_m.0)); i_lt_m = c.requires.i_lt_m.0 }
+pub invariant_of-visits : goal.invariant_of-visits
+invariant_of-visits c = record { visited = ∣ c.requires.laid.walked (omega (arith, c.requires.i_lt_m.0)) ∣₁ }
 
 pub link_term-requires : goal.link_term-requires
 link_term-requires c =

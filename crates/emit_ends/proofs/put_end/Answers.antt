@@ -14,41 +14,38 @@ use Rattle.emit_words.specs.Writes.{writes_more, writes_same}
 use Rattle.emit_insts.specs.Parts.{merge_in, term_in}
 use Rattle.emit_insts.specs.Ready.{ready_visited}
 use Rattle.emit_insts.specs.Fits.{ins_named, merges_small, targets_small}
+use Rattle.emit_insts.specs.Emitting.{emit_ready}
 use Rattle.emit_ends.proofs.put_end.Goals as goal
 
-pub term_kind-w-requires : goal.term_kind-w-requires
-term_kind-w-requires c =
-    let F = func_of c.args.func.now in
-    record { visited = ready_visited c.requires.emit_ready c.args.i c.requires.i_lt_m; i_lt_m = c.requires.i_lt_m }
+pub invariant_of-visits : goal.invariant_of-visits
+invariant_of-visits c = record { visited = ∣ ready_visited (emit_ready c.args.e.now.ready) c.args.i c.requires.i_lt_count ∣₁ }
 
 pub put_merge-requires : goal.put_merge-requires
 put_merge-requires c =
-    let F = func_of c.args.func.now in
-    let k = ready_visited c.requires.emit_ready c.args.i c.requires.i_lt_m in
+    let F = func_of c.args.e.now.func.now in
+    let k = ready_visited (emit_ready c.args.e.now.ready) c.args.i c.requires.i_lt_count in
     record {
-      emit_ready = c.requires.emit_ready;
       known = (
         record { tables = k.tables; walkable = k.walkable; fits = c.term_kind-w.ensures.fits },
-        subst (λ (g : Merge). All Small (merge_labels g)) (ap (λ (t : Terminator). t.merge) c.term_kind-w.ensures.is ∙ merge_of_law F c.term_kind-w.result) (merges_small k c.args.i c.requires.i_lt_m),
+        subst (λ (g : Merge). All Small (merge_labels g)) (ap (λ (t : Terminator). t.merge) c.term_kind-w.ensures.is ∙ merge_of_law F c.term_kind-w.result) (merges_small k c.args.i c.requires.i_lt_count),
       );
     }
 
 pub put_term-requires : goal.put_term-requires
 put_term-requires c =
-    let F = func_of c.args.func.now in
-    let k = ready_visited c.requires.emit_ready c.args.i c.requires.i_lt_m in
+    let F = func_of c.args.e.now.func.now in
+    let k = ready_visited (emit_ready c.args.e.now.ready) c.args.i c.requires.i_lt_count in
     record {
-      emit_ready = c.requires.emit_ready;
-      m_nonzero = (omega (arith, c.requires.i_lt_m), record { tables = k.tables; walkable = k.walkable; fits = c.term_kind-w.ensures.fits });
+      count_nonzero = (omega (arith, c.requires.i_lt_count), record { tables = k.tables; walkable = k.walkable; fits = c.term_kind-w.ensures.fits });
       all = (
-        subst (λ (t : Terminator). All Small t.targets) c.term_kind-w.ensures.is (targets_small k c.args.i c.requires.i_lt_m),
-        subst (λ (t : Terminator). All (Named F) t.ins) c.term_kind-w.ensures.is (ins_named F (refers F c.requires.emit_ready.stands.passes.references) k.walkable c.args.i (omega (arith, c.requires.i_lt_m, k.count))),
+        subst (λ (t : Terminator). All Small t.targets) c.term_kind-w.ensures.is (targets_small k c.args.i c.requires.i_lt_count),
+        subst (λ (t : Terminator). All (Named F) t.ins) c.term_kind-w.ensures.is (ins_named F (refers F c.args.e.now.ready.passes.references) k.walkable c.args.i (omega (arith, c.requires.i_lt_count, k.count))),
       );
     }
 
 pub returns : goal.returns
 returns c =
-    let F = func_of c.args.func.now in
-    let k = ready_visited c.requires.emit_ready c.args.i c.requires.i_lt_m in
+    let F = func_of c.args.e.now.func.now in
+    let k = ready_visited (emit_ready c.args.e.now.ready) c.args.i c.requires.i_lt_count in
     writes_same (writes_more c.put_merge.ensures c.put_term.ensures)
-    (ap₂ (λ (g : Merge) (t : Terminator). merge_in F c.args.first g ++ term_in F c.args.first t) (sym (ap (λ (t : Terminator). t.merge) c.term_kind-w.ensures.is ∙ merge_of_law F c.term_kind-w.result)) (sym c.term_kind-w.ensures.is))
+    (ap₂ (λ (g : Merge) (t : Terminator). merge_in F c.args.e.now.first g ++ term_in F c.args.e.now.first t) (sym (ap (λ (t : Terminator). t.merge) c.term_kind-w.ensures.is ∙ merge_of_law F c.term_kind-w.result)) (sym c.term_kind-w.ensures.is))

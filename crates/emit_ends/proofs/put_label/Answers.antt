@@ -14,7 +14,7 @@ use Rattle.emit_ends.proofs.put_label.Goals as goal
 pub returns : goal.returns
 unfolding label_of
 returns c =
-    let F = func_of c.args.func.now in
+    let F = func_of c.args.e.now.func.now in
     writes_same c.put_front.ensures
-    (ap₂ (λ (o l : ℕ). front_items o 0 0 l [] 0) c.opcode.ensures (c.label_of.ensures ∙ c.requires.emit_ready.ids.label c.args.q c.requires.q_bound)
-    ∙ sym (label_is F c.args.first (walk_of F) (kept (walk_of F)) (point_of c.args.q)))
+    (ap₂ (λ (o l : ℕ). front_items o 0 0 l [] 0) c.opcode.ensures (c.label_of.ensures ∙ c.args.e.now.ready.ids.label c.args.q c.requires.q_bound)
+    ∙ sym (label_is F c.args.e.now.first (walk_of F) (kept (walk_of F)) (point_of c.args.q)))

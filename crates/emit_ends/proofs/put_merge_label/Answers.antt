@@ -13,17 +13,18 @@ use Rattle.terminators.specs.Kinds.{merge_of}
 use Rattle.emit_words.specs.Put.Item.{id}
 use Rattle.emit_words.specs.Writes.{writes_same}
 use Rattle.emit_insts.specs.Ready.{label_at}
+use Rattle.emit_insts.specs.Emitting.{emit_ready}
 use Rattle.emit_ends.proofs.put_merge_label.Goals as goal
 
 pub label_of-requires : goal.label_of-requires
 label_of-requires c =
     let ps = merge_labels (merge_of c.args.w) in
     let s : Small (get_or ps c.args.k (region_entry 0)) = all_in Small ps c.requires.known.1 _ (in_get_or ps c.args.k (region_entry 0) c.requires.k_in_bounds) in
-    (omega (arith, c.merge.ensures, point_low (get_or ps c.args.k (region_entry 0)) s), omega (arith, c.requires.emit_ready.laid.size))
+    (omega (arith, c.merge.ensures, point_low (get_or ps c.args.k (region_entry 0)) s), omega (arith, c.args.e.now.ready.size))
 
 pub returns : goal.returns
 returns c =
     let ps = merge_labels (merge_of c.args.w) in
     let s : Small (get_or ps c.args.k (region_entry 0)) = all_in Small ps c.requires.known.1 _ (in_get_or ps c.args.k (region_entry 0) c.requires.k_in_bounds) in
     writes_same c.put_id.ensures
-    (ap (λ (x : ℕ). id x ∷ []) (c.label_of.ensures ∙ ap (λ (q : ℕ). get_or c.args.work.now (label_ids_at + q) 0) c.merge.ensures ∙ label_at c.requires.emit_ready (get_or ps c.args.k (region_entry 0)) s))
+    (ap (λ (x : ℕ). id x ∷ []) (c.label_of.ensures ∙ ap (λ (q : ℕ). get_or c.args.e.now.work.now (label_ids_at + q) 0) c.merge.ensures ∙ label_at (emit_ready c.args.e.now.ready) (get_or ps c.args.k (region_entry 0)) s))

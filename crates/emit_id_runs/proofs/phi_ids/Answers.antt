@@ -4,11 +4,8 @@ use native.Mathlib.Omega.{arith}
 use Rattle.emit_id_runs.specs.Giving.{gives_phis, phi_room}
 use Rattle.emit_id_runs.proofs.phi_ids.Goals as goal
 
-pub phi_count-n-requires : goal.phi_count-n-requires
-phi_count-n-requires c = record { visited = c.requires.laid.walked (omega (arith, c.requires.i_lt_m.0)); i_lt_m = c.requires.i_lt_m.0 }
-
-pub phi_word-s-requires : goal.phi_word-s-requires
-phi_word-s-requires c = record { visited = c.requires.laid.walked (omega (arith, c.requires.i_lt_m.0)); i_lt_m = c.requires.i_lt_m.0 }
+pub invariant_of-visits : goal.invariant_of-visits
+invariant_of-visits c = record { visited = ∣ c.requires.laid.walked (omega (arith, c.requires.i_lt_m.0)) ∣₁ }
 
 pub give-requires : goal.give-requires
 give-requires c = phi_room c.requires.laid c.args.i c.requires.i_lt_m.0 c.phi_count-n.ensures c.phi_word-s.ensures.value c.phi_word-s.ensures.upper_bound c.requires.i_lt_m.1

@@ -6,11 +6,11 @@ use Rattle.emit_id_runs.specs.Giving.{gives_nothing, gives_one, op_low, op_none,
 use Rattle.emit_id_runs.proofs.result_id.Goals as goal
 
 pub overflow_add-o : goal.overflow_add-o
-overflow_add-o c = omega (arith, op_low c.requires.tables c.args.o (sym c.has_result.ensures ∙ c.if-has_result.true))
+overflow_add-o c = omega (arith, op_low c.known.ensures c.args.o (sym c.has_result.ensures ∙ c.if-has_result.true))
 
 pub give-requires : goal.give-requires
 give-requires c =
-    let l = op_low c.requires.tables c.args.o (sym c.has_result.ensures ∙ c.if-has_result.true) in
+    let l = op_low c.known.ensures c.args.o (sym c.has_result.ensures ∙ c.if-has_result.true) in
     (omega (arith, l, c.requires.work_need_in_bounds.0), omega (arith, c.requires.work_need_in_bounds.1))
 
 pub returns-then-has_result : goal.returns-then-has_result

@@ -27,10 +27,13 @@ elsewhere k i h kept (RegionExit r) n e = no_results k i h kept e refl
 elsewhere k i h kept (NodeEntry r) n e = absurd (n r refl)
 elsewhere k i h kept (NodeExit r) n e = no_results k i h kept e refl
 
+pub invariant_of-visits : goal.invariant_of-visits
+invariant_of-visits c = record { visited = ∣ c.requires.laid.walked (omega (arith, c.requires.i_lt_m.0)) ∣₁ }
+
 pub op_ids-requires : goal.op_ids-requires
 op_ids-requires c =
     let n = of_text (c.requires.laid.walked (omega (arith, c.requires.i_lt_m.0))) c.args.i c.requires.i_lt_m.0 (ap as_point (sym c.in-NodeEntry.is) ∙ c.point.ensures) in
-    record { tables = c.requires.laid.tables; n_in_bounds = n; work_need_in_bounds = (c.requires.laid.size, c.requires.i_lt_m.1) }
+    record { n_in_bounds = n; work_need_in_bounds = (c.requires.laid.size, c.requires.i_lt_m.1) }
 
 pub returns-in-NodeEntry : goal.returns-in-NodeEntry
 returns-in-NodeEntry c =

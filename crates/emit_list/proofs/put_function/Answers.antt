@@ -2,7 +2,7 @@
 -- (`head_is`).
 use mathlib.Core.Path.{refl, ap}
 use mathlib.Core.List.{[], ◌∷◌}
-use Prim.Native.Nat.{ℕ, ◌-◌}
+use Prim.Native.Nat.{ℕ}
 use Rattle.func.specs.Decode.{func_of}
 use Rattle.emit_words.specs.Put.Item.{id}
 use Rattle.emit_words.specs.Writes.{writes_more, writes_same}
@@ -13,7 +13,7 @@ use Rattle.emit_list.proofs.put_function.Goals as goal
 
 pub returns : goal.returns
 returns c =
-    let F = func_of c.args.func.now in
+    let F = func_of c.args.e.now.func.now in
     writes_same
-    (writes_more (writes_same c.put_front.ensures (front_same _ c.opcode.ensures c.func_attrs-attrs.ensures c.func_ret-ret.ensures refl (ap (short function_control) c.func_control.ensures)))
-    (writes_same c.put_id.ensures (ap (λ (x : ℕ). id x ∷ []) c.func_type.ensures))) (head_is F c.args.first)
+    (writes_more (writes_same c.put_front.ensures (front_same _ c.opcode.ensures c.head-head.ensures.attrs c.head-head.ensures.ret refl (ap (short function_control) c.head-head.ensures.control)))
+    (writes_same c.put_id.ensures (ap (λ (x : ℕ). id x ∷ []) c.head-head.ensures.ty))) (head_is F c.args.e.now.first)

@@ -8,5 +8,5 @@ use Rattle.emit_list.proofs.put_last.Goals as goal
 
 pub returns : goal.returns
 returns c =
-    let F = func_of c.args.func.now in
-    writes_same c.put_front.ensures (front_same _ c.opcode.ensures refl refl refl refl ∙ last_is F c.args.first)
+    let F = func_of c.args.e.now.func.now in
+    writes_same c.put_front.ensures (front_same _ c.opcode.ensures refl refl refl refl ∙ last_is F c.args.e.now.first)

@@ -10,10 +10,10 @@ use Rattle.emit_list.proofs.put_list.Goals as goal
 
 pub returns : goal.returns
 returns c =
-    let F = func_of c.args.func.now in
+    let F = func_of c.args.l.now.emission.func.now in
     writes_end
     (writes_same
     (writes_more c.put_function.ensures (writes_more c.put_params.ensures
-    (writes_more (writes_same c.put_points.ensures (ap (up_to (point_items F c.args.first)) c.requires.ready.laid.count)) c.put_last.ensures)))
-    (sym (list_is F c.args.first (shaped_passes F c.requires.ready.stands.passes))))
+    (writes_more (writes_same c.put_points.ensures (ap (up_to (point_items F c.args.l.now.emission.first)) c.args.l.now.emission.ready.count)) c.put_last.ensures)))
+    (sym (list_is F c.args.l.now.emission.first (shaped_passes F c.args.l.now.emission.ready.passes))))
     (omega arith) (search rules)

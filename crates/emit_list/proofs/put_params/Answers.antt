@@ -1,6 +1,5 @@
 -- The loop's invariant: the first k parameters are appended. The measure is how many are left, and all of them are the parameters' items
 -- (`params_are`).
-use Prim.Native.Nat.{◌-◌}
 use native.Mathlib.Omega.{arith}
 use Rattle.func.specs.Decode.{func_of}
 use Rattle.emit_words.specs.Writes.{writes_same}
@@ -16,5 +15,5 @@ loop-k-preserved c = loop_turn c.loop-k.invariant (omega (arith, c.param_total-k
 
 pub returns : goal.returns
 returns c =
-    let F = func_of c.args.func.now in
-    writes_same (loop_end c.loop-k.invariant (omega (arith, c.param_total-k-end.ensures))) (params_are F c.args.first)
+    let F = func_of c.args.e.now.func.now in
+    writes_same (loop_end c.loop-k.invariant (omega (arith, c.param_total-k-end.ensures))) (params_are F c.args.e.now.first)

@@ -1,5 +1,4 @@
 -- The loop's invariant: what the first k visited points give is appended. The measure is how many are left.
-use Prim.Native.Nat.{◌-◌}
 use native.Mathlib.Omega.{arith}
 use Rattle.emit_words.specs.Writes.{loop_end, loop_start, loop_turn}
 use Rattle.emit_list.proofs.put_points.Goals as goal

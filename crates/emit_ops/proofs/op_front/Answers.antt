@@ -11,7 +11,7 @@ use Rattle.emit_ops.proofs.op_front.Goals as goal
 
 pub returns : goal.returns
 returns c =
-    let F = func_of c.args.func.now in
+    let F = func_of c.args.e.now.func.now in
     writes_same c.put_front.ensures
-    (front_same _ c.op_opcode.ensures c.op_attrs.ensures c.op_type-ty.ensures
-    (c.result_of-result.ensures ∙ ap (λ (t : ℕ). result_id F c.args.first (walk_of F) (kept (walk_of F)) t c.args.o) c.op_type-ty.ensures) c.op_imms-imms.ensures.is)
+    (front_same _ c.op_opcode.ensures c.op_slot-slot.ensures.attrs c.op_slot-slot.ensures.ty
+    (c.result_of-result.ensures ∙ ap (λ (t : ℕ). result_id F c.args.e.now.first (walk_of F) (kept (walk_of F)) t c.args.o) c.op_slot-slot.ensures.ty) c.op_imms-imms.ensures.is)

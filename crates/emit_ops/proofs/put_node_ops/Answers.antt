@@ -18,23 +18,22 @@ loop-k-init c = loop_start _ _ (omega arith)
 
 pub put_op-requires : goal.put_op-requires
 put_op-requires c =
-    let F = func_of c.args.func.now in
+    let F = func_of c.args.e.now.func.now in
     let is = block_ops (node_of F c.args.n) in
     record {
-      emit_ready = c.requires.emit_ready;
-      m_nonzero = (
-        c.requires.m_nonzero.0,
+      count_nonzero = (
+        c.requires.count_nonzero.0,
         subst (λ (o : ℕ). o < length F.ops) (sym c.node_op.ensures)
-            (node_ops_low F (refers F c.requires.emit_ready.stands.passes.references) c.args.n _ (in_get_or is c.loop-k.k 0 (omega (arith, c.node_op_count-k-end.ensures)))),
+            (node_ops_low F (refers F c.args.e.now.ready.passes.references) c.args.n _ (in_get_or is c.loop-k.k 0 (omega (arith, c.node_op_count-k-end.ensures)))),
       );
     }
 
 pub loop-k-preserved : goal.loop-k-preserved
 loop-k-preserved c =
-    let F = func_of c.args.func.now in
-    loop_turn c.loop-k.invariant (omega (arith, c.node_op_count-k-end.ensures)) (writes_same c.put_op.ensures (ap (op_in F c.args.first) c.node_op.ensures))
+    let F = func_of c.args.e.now.func.now in
+    loop_turn c.loop-k.invariant (omega (arith, c.node_op_count-k-end.ensures)) (writes_same c.put_op.ensures (ap (op_in F c.args.e.now.first) c.node_op.ensures))
 
 pub returns : goal.returns
 returns c =
-    let F = func_of c.args.func.now in
-    loop_gather (op_in F c.args.first) (block_ops (node_of F c.args.n)) 0 c.loop-k.invariant (omega arith)
+    let F = func_of c.args.e.now.func.now in
+    loop_gather (op_in F c.args.e.now.first) (block_ops (node_of F c.args.n)) 0 c.loop-k.invariant (omega arith)

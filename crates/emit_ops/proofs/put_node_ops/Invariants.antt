@@ -8,4 +8,4 @@ use Rattle.emit_insts.specs.Parts.{op_in}
 use Rattle.emit_ops.proofs.put_node_ops.Given as goal
 
 abbrev pub invariant-loop-k : goal.invariant-loop-k
-invariant-loop-k l = Loop (λ j. op_in (func_of l.func) l.first (get_or (block_ops (node_of (func_of l.func) l.n)) j 0)) (length (block_ops (node_of (func_of l.func) l.n))) l.initial.out l.k l.out
+invariant-loop-k l = Loop (λ j. op_in (func_of l.e.func.now) l.e.first (get_or (block_ops (node_of (func_of l.e.func.now) l.n)) j 0)) (length (block_ops (node_of (func_of l.e.func.now) l.n))) l.initial.out l.k l.out

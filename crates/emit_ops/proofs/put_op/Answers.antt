@@ -11,16 +11,16 @@ use Rattle.emit_ops.proofs.put_op.Goals as goal
 
 pub op_front-requires : goal.op_front-requires
 op_front-requires c =
-    let F = func_of c.args.func.now in
-    record { emit_ready = c.requires.emit_ready; o_in_bounds = (c.requires.m_nonzero.1, omega (arith, c.value_count.ensures.upper_bound, c.callee_count.ensures.upper_bound)) }
+    let F = func_of c.args.e.now.func.now in
+    record { o_in_bounds = (c.requires.count_nonzero.1, omega (arith, c.value_count.ensures.upper_bound, c.callee_count.ensures.upper_bound)) }
 
 pub put_values-requires : goal.put_values-requires
 put_values-requires c =
-    let F = func_of c.args.func.now in
-    record { emit_ready = c.requires.emit_ready; m_nonzero = c.requires.m_nonzero.0; values_fit = (c.requires.m_nonzero.1, (refers F c.requires.emit_ready.stands.passes.references).named.operands c.args.o) }
+    let F = func_of c.args.e.now.func.now in
+    record { count_nonzero = c.requires.count_nonzero.0; values_fit = (c.requires.count_nonzero.1, (refers F c.args.e.now.ready.passes.references).named.operands c.args.o) }
 
 pub returns : goal.returns
 returns c =
-    let F = func_of c.args.func.now in
+    let F = func_of c.args.e.now.func.now in
     writes_same (writes_more c.op_front.ensures (writes_more c.put_callee.ensures c.put_values.ensures))
-    (op_is F c.args.first (walk_of F) (kept (walk_of F)) c.args.o _ _ (omega (arith, c.value_count.ensures.value, c.callee_count.ensures.value)) c.callee-called.ensures)
+    (op_is F c.args.e.now.first (walk_of F) (kept (walk_of F)) c.args.o _ _ (omega (arith, c.value_count.ensures.value, c.callee_count.ensures.value)) c.callee-called.ensures)

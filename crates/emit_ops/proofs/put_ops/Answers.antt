@@ -16,6 +16,7 @@ use Rattle.terminators.specs.Kinds.{as_point}
 use Rattle.emit_insts.specs.Parts.{op_in}
 use Rattle.emit_insts.specs.Ready.{ready_visited}
 use Rattle.emit_insts.specs.Fits.{ops_at, ops_of}
+use Rattle.emit_insts.specs.Emitting.{emit_ready}
 use Rattle.emit_ops.proofs.put_ops.Goals as goal
 
 -- no point but a node's entry has ops
@@ -25,24 +26,27 @@ no_ops F (RegionExit r) n = refl
 no_ops F (NodeEntry r) n = absurd (n r refl)
 no_ops F (NodeExit r) n = refl
 
+pub invariant_of-visits : goal.invariant_of-visits
+invariant_of-visits c = record { visited = ∣ ready_visited (emit_ready c.args.e.now.ready) c.args.i c.requires.i_lt_count ∣₁ }
+
 pub put_node_ops-requires : goal.put_node_ops-requires
 put_node_ops-requires c =
-    let F = func_of c.args.func.now in
-    let k = ready_visited c.requires.emit_ready c.args.i c.requires.i_lt_m in
-    let h : c.args.i < length (walk_of F) = omega (arith, c.requires.i_lt_m, k.count) in
-    record { emit_ready = c.requires.emit_ready; m_nonzero = (omega (arith, c.requires.i_lt_m), subst (InText F) (sym c.point.ensures ∙ ap as_point c.in-NodeEntry.is) (in_text_law F k.walkable c.args.i h)) }
+    let F = func_of c.args.e.now.func.now in
+    let k = ready_visited (emit_ready c.args.e.now.ready) c.args.i c.requires.i_lt_count in
+    let h : c.args.i < length (walk_of F) = omega (arith, c.requires.i_lt_count, k.count) in
+    record { count_nonzero = (omega (arith, c.requires.i_lt_count), subst (InText F) (sym c.point.ensures ∙ ap as_point c.in-NodeEntry.is) (in_text_law F k.walkable c.args.i h)) }
 
 pub returns-in-NodeEntry : goal.returns-in-NodeEntry
 returns-in-NodeEntry c =
-    let F = func_of c.args.func.now in
-    let k = ready_visited c.requires.emit_ready c.args.i c.requires.i_lt_m in
-    let h : c.args.i < length (walk_of F) = omega (arith, c.requires.i_lt_m, k.count) in
-    writes_same c.put_node_ops.ensures (sym (ap (gather (op_in F c.args.first)) (ops_at F k.walkable c.args.i h ∙ ap (ops_of F) (sym c.point.ensures) ∙ ap (λ (x : Point). ops_of F (as_point x)) c.in-NodeEntry.is)))
+    let F = func_of c.args.e.now.func.now in
+    let k = ready_visited (emit_ready c.args.e.now.ready) c.args.i c.requires.i_lt_count in
+    let h : c.args.i < length (walk_of F) = omega (arith, c.requires.i_lt_count, k.count) in
+    writes_same c.put_node_ops.ensures (sym (ap (gather (op_in F c.args.e.now.first)) (ops_at F k.walkable c.args.i h ∙ ap (ops_of F) (sym c.point.ensures) ∙ ap (λ (x : Point). ops_of F (as_point x)) c.in-NodeEntry.is)))
 
 pub returns-in_default : goal.returns-in_default
 returns-in_default c =
-    let F = func_of c.args.func.now in
-    let k = ready_visited c.requires.emit_ready c.args.i c.requires.i_lt_m in
-    let h : c.args.i < length (walk_of F) = omega (arith, c.requires.i_lt_m, k.count) in
+    let F = func_of c.args.e.now.func.now in
+    let k = ready_visited (emit_ready c.args.e.now.ready) c.args.i c.requires.i_lt_count in
+    let h : c.args.i < length (walk_of F) = omega (arith, c.requires.i_lt_count, k.count) in
     writes_same (writes_none (omega arith))
-    (sym (ap (gather (op_in F c.args.first)) (ops_at F k.walkable c.args.i h ∙ ap (ops_of F) (sym c.point.ensures) ∙ no_ops F _ c.in_default.not-NodeEntry)))
+    (sym (ap (gather (op_in F c.args.e.now.first)) (ops_at F k.walkable c.args.i h ∙ ap (ops_of F) (sym c.point.ensures) ∙ no_ops F _ c.in_default.not-NodeEntry)))

@@ -12,12 +12,13 @@ use Rattle.emit_output.proofs.at_once.Goals as goal
 
 pub returns : goal.returns
 returns c =
-    let F = func_of c.args.func.now in
+    let F = func_of c.args.l.now.emission.func.now in
+    let p = c.args.l.now.emission.ready.passes in
     let n = length c.args.out.now in
-    let L = list_of F c.args.first in
-    let room = sure_room F c.args.first n c.requires.out_value c.requires.over.ready.stands.passes in
+    let L = list_of F c.args.l.now.emission.first in
+    let room = sure_room F c.args.l.now.emission.first n c.requires.out_value p in
     record {
-      gives = gives_list F c.args.first n c.args.out.now (sure_set F c.args.first n c.requires.out_value c.requires.over.ready.stands.passes c.requires.first_value) (le-leb _ n room)
-          (count_is L c.put_list-end.ensures (omega (arith, text_bound F c.args.first c.requires.over.ready.stands.passes.limits c.requires.over.ready.stands.passes.references c.requires.over.ready.stands.passes.tree c.requires.over.ready.stands.passes.counts c.requires.over.ready.stands.passes.control))) c.requires.next_value (list_stands L c.put_list-end.ensures room);
+      gives = gives_list F c.args.l.now.emission.first n c.args.out.now (sure_set F c.args.l.now.emission.first n c.requires.out_value p c.requires.first_value) (le-leb _ n room)
+          (count_is L c.put_list-end.ensures (omega (arith, text_bound F c.args.l.now.emission.first p.limits p.references p.tree p.counts p.control))) c.requires.next_value (list_stands L c.put_list-end.ensures room);
       wanted = tt;
     }

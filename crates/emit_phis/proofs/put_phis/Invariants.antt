@@ -8,4 +8,4 @@ use Rattle.emit_phis.specs.Items.{phi_in}
 use Rattle.emit_phis.proofs.put_phis.Given as goal
 
 abbrev pub invariant-loop-j : goal.invariant-loop-j
-invariant-loop-j l = Loop (phi_in (func_of l.func) l.first l.i) (length (visited_block (func_of l.func) l.i).keys) l.initial.out l.j l.out
+invariant-loop-j l = Loop (phi_in (func_of l.e.func.now) l.e.first l.i) (length (visited_block (func_of l.e.func.now) l.i).keys) l.initial.out l.j l.out

@@ -22,7 +22,7 @@ bounds-work-o c = omega (arith, result_low c.requires.ids (known_as c.requires.k
 pub returns-in-Const : goal.returns-in-Const
 returns-in-Const c =
     let e = ap as_value c.in-Const.is in
-    read_const (func_of c.args.func.now) c.args.first c.in-Const.n refl c.const_id.ensures ∙ ap (id_in (func_of c.args.func.now) c.args.first) (sym e)
+    read_const (func_of c.args.func.now) c.args.first c.in-Const.n refl c.constant.ensures.id ∙ ap (id_in (func_of c.args.func.now) c.args.first) (sym e)
 
 pub returns-in-Input : goal.returns-in-Input
 returns-in-Input c =

@@ -2,19 +2,20 @@
 use native.Mathlib.Omega.{arith}
 use Rattle.func.proofs.Pools.{entry_words_law, entry_room_law}
 use Rattle.func.proofs.Tables.{word_is}
+use Rattle.func_pools.specs.Pools.{pool_number}
 use Rattle.func_pools.proofs.word.Goals as goal
 
 pub spot-at-requires : goal.spot-at-requires
-spot-at-requires c = (c.requires.within.pool, omega (arith, c.requires.within.fits, c.requires.within.below, entry_room_law c.args.k))
+spot-at-requires c = omega (arith, c.requires.within.fits, c.requires.within.below, entry_room_law (pool_number c.args.k))
 
 pub overflow_add-result : goal.overflow_add-result
-overflow_add-result c = omega (arith, entry_words_law c.args.k, c.requires.within.size)
+overflow_add-result c = omega (arith, entry_words_law (pool_number c.args.k), c.requires.within.size)
 
 pub offset_bounds-func-at : goal.offset_bounds-func-at
-offset_bounds-func-at c = omega (arith, entry_words_law c.args.k, c.requires.within.size)
+offset_bounds-func-at c = omega (arith, entry_words_law (pool_number c.args.k), c.requires.within.size)
 
 pub bounds-func-at : goal.bounds-func-at
-bounds-func-at c = omega (arith, entry_words_law c.args.k, c.requires.within.size)
+bounds-func-at c = omega (arith, entry_words_law (pool_number c.args.k), c.requires.within.size)
 
 pub returns : goal.returns
-returns c = word_is c.requires.within c.args.j c.spot-at.result (omega (arith, entry_words_law c.args.k)) c.spot-at.ensures.0
+returns c = word_is c.requires.within c.args.j c.spot-at.result (omega (arith, entry_words_law (pool_number c.args.k))) c.spot-at.ensures.0

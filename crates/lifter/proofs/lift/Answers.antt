@@ -8,18 +8,24 @@ use Rattle.std.specs.Prelude.{Result, Ok, Err}
 use Rattle.std.specs.Result.{IsErrAnd}
 use Rattle.refusals.specs.declared.Refusal.{Refusal}
 use Rattle.refusals.specs.Numbers.{refusal_number}
-use Rattle.lifting.specs.Answer.{Answer, out_after, refused}
+use Rattle.lifting.specs.Answer.{Answer, lifted, out_after, parsed, refused}
+use Rattle.lifting.specs.Instructions.{list_of}
+use Rattle.lifting.specs.Words.{words}
 use Rattle.func.specs.Decode.{func_of}
 use Rattle.results.specs.declared.Lifted.{Lifted}
 use Rattle.results.specs.declared.Unlifted.{Unlifted}
 use Rattle.results.specs.Told.{no_list}
+use Rattle.check_text.specs.Same.{Stands}
 use Rattle.reader.specs.Same.{parsed_judged, stands_judged}
 use Rattle.emit_output.specs.Emit.{Gives, Wants, gives_same, outcome, refuses}
 use Rattle.lifter.specs.Entry.{EndsClear, clear_refused, clear_tables, early, tabled, wanted_denied, wanted_tabled}
 use Rattle.lifter.proofs.lift.Goals as goal
 
+pub new-requires : goal.new-requires
+new-requires c = (stands_judged c.args.text.now c.args.func.now (length c.args.work.now) c.requires.0 c.in_ok-judge.ensures.judges).tables
+
 pub emit-requires-clause-stands : goal.emit-requires-clause-stands
-emit-requires-clause-stands c = stands_judged c.args.text.now c.args.func.now (length c.args.work.now) c.requires.0 c.in_ok-judge.ensures.judges
+emit-requires-clause-stands c = subst (λ (w : List ℕ). Stands (func_of w) w) (sym c.new.ensures) (stands_judged c.args.text.now c.args.func.now (length c.args.work.now) c.requires.0 c.in_ok-judge.ensures.judges)
 
 -- the answer that the `?` makes of a refusal
 module _ (r : Refusal) where
@@ -52,7 +58,7 @@ returns-in_err-judge-clause-wanted c =
 pub returns-clause-gives : goal.returns-clause-gives
 returns-clause-gives c =
     let e = parsed_judged c.args.text.now c.args.func.now (length c.args.work.now) c.requires.0 c.in_ok-judge.ensures.judges in
-    gives_same c.emit.ensures.gives (tabled c.args.text.now c.args.first (length c.args.func.now) (length c.args.work.now) (length c.args.out.now) (func_of c.judge.new.func) e)
+    gives_same c.emit.ensures.gives (ap (λ (w : List ℕ). lifted (parsed (func_of w)) c.args.first (length c.args.out.now)) c.new.ensures ∙ tabled c.args.text.now c.args.first (length c.args.func.now) (length c.args.work.now) (length c.args.out.now) (func_of c.judge.new.func) e)
 
 pub returns-clause-ends_clear : goal.returns-clause-ends_clear
 returns-clause-ends_clear c =
@@ -63,4 +69,4 @@ returns-clause-ends_clear c =
 pub returns-clause-wanted : goal.returns-clause-wanted
 returns-clause-wanted c =
     let e = parsed_judged c.args.text.now c.args.func.now (length c.args.work.now) c.requires.0 c.in_ok-judge.ensures.judges in
-    subst (λ (n : ℕ). Wants n c.emit.result) (wanted_tabled c.args.text.now c.args.first (length c.args.func.now) (length c.args.work.now) (length c.args.out.now) (func_of c.judge.new.func) e) c.emit.ensures.wanted
+    subst (λ (n : ℕ). Wants n c.emit.result) (wanted_tabled c.args.text.now c.args.first (length c.args.func.now) (length c.args.work.now) (length c.args.out.now) (func_of c.judge.new.func) e) (subst (λ (w : List ℕ). Wants (length (words (list_of (func_of w) c.args.first))) c.emit.result) c.new.ensures c.emit.ensures.wanted)

@@ -16,11 +16,16 @@ returns-then-region_total-eq0 c =
     let none : length F.regions ≡ 0 = sym c.region_total.ensures ∙ c.if-region_total-eq0.true in
     record { put_bytes = put_bytes_same (put_bytes_none (omega arith) (omega arith)) (sym (lines_none F none)); laid_out = laid_none F c.args.work.now c.args.work.now F.regions none }
 
-pub put_lines-requires : goal.put_lines-requires
-put_lines-requires c = shows_blocks c.blocks-m.ensures.visited c.blocks-m.ensures.block_words
+pub invariant_of-visits : goal.invariant_of-visits
+invariant_of-visits c = record { visited = ∣ c.blocks-count.ensures.visited ∣₁ }
+
+pub invariant_of-put_lines : goal.invariant_of-put_lines
+invariant_of-put_lines c =
+    let s = shows_blocks c.blocks-count.ensures.visited c.blocks-count.ensures.block_words in
+    record { counted = s.counted; absorbing = s.absorbing }
 
 pub returns : goal.returns
 returns c =
     let F = func_of c.args.func.now in
     let some : 0 < length F.regions = omega (arith, c.region_total.ensures, c.if-region_total-eq0.false) in
-    record { put_bytes = c.put_lines.ensures; laid_out = laid_some F c.args.work.now _ F.regions some c.blocks-m.ensures.block_words c.blocks-m.ensures.work_len_unchanged }
+    record { put_bytes = c.put_lines.ensures; laid_out = laid_some F c.args.work.now _ F.regions some c.blocks-count.ensures.block_words c.blocks-count.ensures.work_len_unchanged }

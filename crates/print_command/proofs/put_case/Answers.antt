@@ -1,7 +1,8 @@
 -- The command and the input are those that the case's first line gives.
-use Rattle.std.proofs.Common.{List, ◌++◌, ℕ, drop, ap, ◌∙◌}
+use Rattle.std.proofs.Common.{List, ◌++◌, ℕ, drop, ap, ◌∙◌, arith, rules}
 use Rattle.lifting.specs.Bytes.{bytes}
 use Rattle.command.specs.declared.Command.{Command}
+use Rattle.print_bytes.specs.Prints.{prints_end}
 use Rattle.print_bytes.specs.Put.{put_bytes_more, put_bytes_same}
 use Rattle.print_bytes.specs.Taken.{tail_part}
 use Rattle.print_command.specs.Printed.{printed_for}
@@ -14,4 +15,5 @@ returns c =
     let same =
     ap (printed_for opened.result.command) (tail_part opened.result.at case)
     ∙ ap (λ (x : Command × ℕ). printed_for x.0 (drop x.1 case)) opened.ensures.at_value in
-    record { printed = put_bytes_same (put_bytes_more c.put-n.ensures.printed c.put_bytes.ensures) (ap (λ (l : List ℕ). l ++ bytes "%%\n") same) }
+    let end = prints_end c.put_bytes.ensures (omega arith) (search rules) in
+    record { printed = put_bytes_same (put_bytes_more c.put-n.ensures.printed end) (ap (λ (l : List ℕ). l ++ bytes "%%\n") same) }

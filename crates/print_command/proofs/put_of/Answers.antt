@@ -23,8 +23,8 @@ returns-in-Blocks c = put_bytes_same c.put_answer.ensures.put_bytes (same c.args
 
 pub returns-in-Help : goal.returns-in-Help
 unfolding command_bytes help_bytes unknown_bytes
-returns-in-Help c = put_bytes_same c.put_bytes.ensures (same c.args.input.now _ _ _ c.in-Help.is)
+returns-in-Help c = put_bytes_same c.put_text.ensures (same c.args.input.now _ _ _ c.in-Help.is)
 
 pub returns-in-Unknown : goal.returns-in-Unknown
 unfolding command_bytes help_bytes unknown_bytes
-returns-in-Unknown c = put_bytes_same c.put_bytes-in-Unknown.ensures (same c.args.input.now _ _ _ c.in-Unknown.is)
+returns-in-Unknown c = put_bytes_same c.put_text-in-Unknown.ensures (same c.args.input.now _ _ _ c.in-Unknown.is)

@@ -2,7 +2,7 @@
 use mathlib.Core.Path.{◌≡◌, sym, ap, ◌∙◌}
 use Prim.Native.Nat.{ℕ, ◌+◌, ◌*◌}
 use lib.ListN.{get_or, take, drop}
-use Rattle.print_bytes.specs.Put.{put_bytes_more, put_bytes_same}
+use Rattle.print_bytes.specs.Prints.{prints_more, prints_same}
 use Rattle.print_bytes.specs.Lines.{ids_bytes, id_form_bytes}
 use Rattle.print_bytes.specs.Taken.{imm_count, id_count, inst_ids}
 use Rattle.print_forms.proofs.put_id_form.Goals as goal
@@ -14,10 +14,10 @@ returns c =
     let ids : c.word-ids.result ≡ id_count c.args.words.now =
     c.word-ids.ensures ∙ ap (λ (n : ℕ). get_or c.args.words.now (5 + 3 * n) 0) imms in
     let here =
-    put_bytes_same c.put_ids-b.ensures
+    prints_same c.put_ids.ensures
     (ap ids_bytes
     (c.front.ensures
     ∙ ap (take c.word-ids.result) (c.rest.ensures ∙ ap (λ (n : ℕ). drop (6 + 3 * n) c.args.words.now) imms)
     ∙ ap (λ (n : ℕ). take n (drop (6 + 3 * imm_count c.args.words.now) c.args.words.now)) ids
     ∙ sym (inst_ids c.args.words.now))) in
-    put_bytes_more c.put_bytes-a.ensures (put_bytes_more here c.put_byte.ensures)
+    prints_more c.put_bytes.ensures (prints_more here c.put_byte.ensures)

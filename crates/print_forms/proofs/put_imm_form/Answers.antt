@@ -4,7 +4,7 @@ use mathlib.Core.List.{List}
 use Prim.Native.Nat.{ℕ}
 use lib.ListN.{drop}
 use Rattle.lifting.specs.Words.{imms_from}
-use Rattle.print_bytes.specs.Put.{put_bytes_more, put_bytes_same}
+use Rattle.print_bytes.specs.Prints.{prints_more, prints_same}
 use Rattle.print_bytes.specs.Lines.{imms_bytes, imm_form_bytes}
 use Rattle.print_forms.proofs.put_imm_form.Goals as goal
 
@@ -12,7 +12,7 @@ pub returns : goal.returns
 unfolding imm_form_bytes
 returns c =
     let here =
-    put_bytes_same c.put_imms-b.ensures
+    prints_same c.put_imms.ensures
     (ap (λ (w : List ℕ). imms_bytes (imms_from c.word.result w).got) c.rest.ensures
     ∙ ap (λ (n : ℕ). imms_bytes (imms_from n (drop 5 c.args.words.now)).got) c.word.ensures) in
-    put_bytes_more c.put_bytes-a.ensures (put_bytes_more here c.put_byte.ensures)
+    prints_more c.put_bytes.ensures (prints_more here c.put_byte.ensures)

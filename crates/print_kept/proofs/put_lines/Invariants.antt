@@ -1,9 +1,9 @@
 -- What the first i positions bring is put.
 use Rattle.func.specs.Decode.{func_of}
 use Rattle.lifting_blocks.specs.Flat.{up_to}
-use Rattle.print_bytes.specs.Put.{PutBytes}
+use Rattle.print_bytes.specs.Prints.{Prints}
 use Rattle.print_lines.specs.Positions.{line_at}
 use Rattle.print_kept.proofs.put_lines.Given as goal
 
 abbrev pub invariant-loop-i : goal.invariant-loop-i
-invariant-loop-i l = PutBytes l.initial.out 0 (up_to (line_at (func_of l.func)) l.i) l.out l.at
+invariant-loop-i l = Prints l.initial.lines (up_to (line_at (func_of l.shown.visits.func.now)) l.i) l.lines

@@ -3,10 +3,10 @@ use lib.ListN.{drop}
 use Rattle.lifting.specs.Absorb.{merge_labels}
 use Rattle.func.specs.Decode.{func_of}
 use Rattle.terminators.specs.At.{visited_block}
-use Rattle.print_bytes.specs.Put.{Part}
+use Rattle.print_bytes.specs.Prints.{Printing}
 use Rattle.print_lines.specs.Lines.{points_bytes}
 use Rattle.print_labels.proofs.put_merge.Given as goal
 
 abbrev pub invariant-loop-k : goal.invariant-loop-k
-invariant-loop-k l = let ls = merge_labels (visited_block (func_of l.func) l.i).term.merge in
-    Part l.initial.out l.at (points_bytes ls) l.out l.next (points_bytes (drop l.k ls))
+invariant-loop-k l = let ls = merge_labels (visited_block (func_of l.shown.visits.func.now) l.i).term.merge in
+    Printing l.initial.out (points_bytes ls) l.out (points_bytes (drop l.k ls))

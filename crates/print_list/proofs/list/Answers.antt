@@ -3,17 +3,17 @@
 use mathlib.Core.Path.{sym, ap, ◌∙◌}
 use mathlib.Core.List.{List, ◌∷◌}
 use Prim.Native.Nat.{ℕ}
-use native.Mathlib.Omega.{arith}
+use Rattle.std.proofs.Common.{arith, rules}
 use lib.ListN.{drop}
 use Rattle.lifting.specs.Words.{inst_from, list_from}
-use Rattle.print_bytes.specs.Put.{part_start, part_more, part_done, put_bytes_same, put_bytes_length}
+use Rattle.print_bytes.specs.Prints.{printing_start, printing_more, printing_done, prints_end, prints_same}
 use Rattle.print_bytes.specs.Shown.{inst_bytes, list_bytes}
 use Rattle.print_bytes.specs.Taken.{list_next, list_end}
 use Rattle.print_bytes.specs.Taken.{tail_part}
 use Rattle.print_list.proofs.list.Goals as goal
 
 pub loop-from-init : goal.loop-from-init
-loop-from-init c = (omega arith, part_start (list_bytes (list_from c.args.words.now)) (omega arith) (omega arith))
+loop-from-init c = (omega arith, printing_start (list_bytes (list_from c.args.words.now)) (omega arith))
 
 pub loop-from-smaller : goal.loop-from-smaller
 loop-from-smaller c = omega (arith, c.next_inst-from.ensures.moved, c.next_inst-from.ensures.fits)
@@ -23,11 +23,8 @@ unfolding list_bytes
 loop-from-preserved c =
     let inst = ap (λ (l : List ℕ). inst_bytes (inst_from l).got) (tail_part c.loop-from.from c.args.words.now) in
     let next = list_next c.args.words.now c.loop-from.from (omega arith) ∙ ap (λ (l : List ℕ). (inst_from (drop c.loop-from.from c.args.words.now)).got ∷ list_from l) (sym c.next_inst-from.ensures.same) in
-    (c.next_inst-from.ensures.fits, part_more c.loop-from.invariant.1 (put_bytes_same c.put_inst-at.ensures inst) (ap list_bytes next))
-
-pub shape_of-out : goal.shape_of-out
-shape_of-out c = put_bytes_length c.loop-from.invariant.1.put
+    (c.next_inst-from.ensures.fits, printing_more c.loop-from.invariant.1 (prints_same c.put_inst.ensures inst) (ap list_bytes next))
 
 pub returns : goal.returns
 unfolding list_bytes
-returns c = part_done c.loop-from.invariant.1 (ap list_bytes (list_end c.args.words.now c.loop-from.from (omega arith)))
+returns c = prints_end (printing_done c.loop-from.invariant.1 (ap list_bytes (list_end c.args.words.now c.loop-from.from (omega arith)))) (omega arith) (search rules)

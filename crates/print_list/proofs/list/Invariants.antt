@@ -3,12 +3,12 @@
 use Prim.Native.Nat.{◌≤◌, ◌-◌}
 use lib.ListN.{length, drop}
 use Rattle.lifting.specs.Words.{list_from}
-use Rattle.print_bytes.specs.Put.{Part}
+use Rattle.print_bytes.specs.Prints.{Printing}
 use Rattle.print_bytes.specs.Shown.{list_bytes}
 use Rattle.print_list.proofs.list.Given as goal
 
 abbrev pub invariant-loop-from : goal.invariant-loop-from
-invariant-loop-from l = (l.from ≤ length l.words) × Part l.initial.out 0 (list_bytes (list_from l.words)) l.out l.at (list_bytes (list_from (drop l.from l.words)))
+invariant-loop-from l = (l.from ≤ length l.words) × Printing l.initial.lines (list_bytes (list_from l.words)) l.lines (list_bytes (list_from (drop l.from l.words)))
 
 abbrev pub decreases-loop-from : goal.decreases-loop-from
 decreases-loop-from l = length l.words - l.from

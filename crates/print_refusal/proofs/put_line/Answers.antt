@@ -1,17 +1,22 @@
 -- Of each answer the bytes that are put, one piece behind the other, are those of its line.
-use mathlib.Core.Path.{sym, ap, ◌∙◌}
-use mathlib.Core.List.{◌++◌}
-use Prim.Native.Nat.{ℕ}
+use Rattle.std.proofs.Common.{◌≡◌, List, ◌++◌, ℕ, sym, ap, subst, ◌∙◌, arith, rules}
 use Rattle.lifting.specs.Bytes.{bytes}
 use Rattle.lifting.specs.Digits.{digits}
-use Rattle.print_bytes.specs.Put.{put_bytes_more, put_bytes_same}
+use Rattle.print_bytes.specs.declared.Printer.{Printer}
+use Rattle.print_bytes.specs.Prints.{Prints, prints_end, prints_more, prints_same}
 use Rattle.print_refusal.specs.Line.{line_of}
 use Rattle.print_refusal.proofs.put_line.Goals as goal
+use Rattle.print_refusal.proofs.put_line.Goals.{in-Ok, in-Err}
 
-pub returns-in-Ok : goal.returns-in-Ok
-unfolding line_of
-returns-in-Ok c = put_bytes_same c.put_bytes.ensures (sym (ap line_of c.in-Ok.is))
+-- the printer behind the cases is the one that the case left
+left : {a b r : Printer} {l : List ℕ} → Prints a l b → r ≡ b → Prints a l r
+left {a} {l = l} p e = subst (λ (x : Printer). Prints a l x) (sym e) p
 
-pub returns-in-Err : goal.returns-in-Err
+pub returns : goal.returns
 unfolding line_of
-returns-in-Err c = put_bytes_same (put_bytes_more c.put_number-n.ensures c.put_byte.ensures) (ap (λ (k : ℕ). digits k ++ bytes "\n") c.from.ensures ∙ sym (ap line_of c.in-Err.is))
+returns c = elim c.match-parsed.branch [
+  | in-Ok w ↦ prints_end (left (prints_same w.put_bytes.ensures (sym (ap line_of w.in-Ok.is))) w.line-is) (omega arith) (search rules)
+  | in-Err w ↦
+      let line = ap (λ (k : ℕ). digits k ++ bytes "\n") w.from.ensures ∙ sym (ap line_of w.in-Err.is) in
+      prints_end (left (prints_same (prints_more w.put_number.ensures w.put_byte.ensures) line) w.line-is) (omega arith) (search rules)
+]

@@ -1,17 +1,11 @@
 -- A space, a number behind a bracket, two numbers and the closing bracket are read one behind the other, as the grammar's `imm_codec` lines them up.
 use Rattle.lifting.specs.Codec.{seq}
-use Rattle.lifting.specs.Grammar.{open1, field, imm_codec}
-use Rattle.read_cursor.specs.Chains.{no_value, seq_reads, closed_unclosed, closed_reached, spaced_open, spaced_reached, same_misses, same_reads}
+use Rattle.lifting.specs.Grammar.{open1, field, closed, imm_codec}
+use Rattle.read_fields.specs.Joins.{closes_reads, follows_reads, spaced_reads, same_as}
 use Rattle.read_fields.proofs.imm.Goals as goal
-
-pub returns-in_err-e : goal.returns-in_err-e
-unfolding imm_codec
-returns-in_err-e c =
-    let numbers = seq_reads open1 (seq field field) c.in_ok-kind.ensures c.in_ok-rest.ensures in
-    no_value _ c.from_residual-in_err-e.ensures (same_misses _ _ _ _ _ (spaced_open _ c.in_ok-skip_space.ensures (closed_unclosed _ numbers c.in_err-e.ensures)))
 
 pub returns : goal.returns
 unfolding imm_codec
 returns c =
-    let numbers = seq_reads open1 (seq field field) c.in_ok-kind.ensures c.in_ok-rest.ensures in
-    same_reads _ _ _ _ _ (spaced_reached _ c.in_ok-skip_space.ensures (closed_reached _ numbers c.in_ok-e.ensures))
+    let numbers = follows_reads open1 (seq field field) _ _ _ _ c.opened.ensures c.then.ensures (λ d q p. p.1) in
+    same_as _ _ _ _ _ _ _ (spaced_reads (closed (seq open1 (seq field field))) _ c.in_ok-skip_space.ensures (closes_reads (seq open1 (seq field field)) _ _ _ numbers c.closed.ensures))

@@ -9,5 +9,5 @@ walk_roots-requires-clause-n_value c = (roots_kept c.reached-n.result c.parents.
 
 pub returns : goal.returns
 returns c =
-    let e = tables_end_law c.requires.tables c.requires.walkable (omega (arith, c.requires.work_need_in_bounds, c.reached-n.ensures.work_len_unchanged, c.parents.ensures.work_len_unchanged)) c.walk_roots.ensures.walked c.parents.ensures.parents c.parents.ensures.aside c.reached-n.ensures.indexed c.reached-n.ensures.aside in
+    let e = tables_end_law c.known.ensures c.requires.walkable (omega (arith, c.requires.work_need_in_bounds, c.reached-n.ensures.work_len_unchanged, c.parents.ensures.work_len_unchanged)) c.walk_roots.ensures.walked c.parents.ensures.parents c.parents.ensures.aside c.reached-n.ensures.indexed c.reached-n.ensures.aside in
     record { value = e.count; result_after = e.points; upper_bound = e.most; parents = e.parents; indexed = e.lines; walk_words = e.words; work_len_unchanged = c.walk_roots.ensures.work_len_unchanged ∙ c.parents.ensures.work_len_unchanged ∙ c.reached-n.ensures.work_len_unchanged }

@@ -6,7 +6,7 @@ use Rattle.emit_chains.specs.Edge.{edge_word}
 use Rattle.emit_phis.proofs.pairs.pair_words.Given as goal
 
 abbrev pub invariant-loop-edge : goal.invariant-loop-edge
-invariant-loop-edge l = (l.n + 2 * length (chain l.work (edge_word l.edge)) ≡ 2 * length (chain l.work (edge_word l.fn.from))) × (l.n + 2 * edge_word l.edge ≤ 2048)
+invariant-loop-edge l = (l.n + 2 * length (chain l.chains.work.now (edge_word l.edge)) ≡ 2 * length (chain l.chains.work.now (edge_word l.fn.from))) × (l.n + 2 * edge_word l.edge ≤ 2048)
 
 abbrev pub decreases-loop-edge : goal.decreases-loop-edge
 decreases-loop-edge l = edge_word l.edge

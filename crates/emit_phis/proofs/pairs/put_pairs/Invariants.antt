@@ -6,7 +6,7 @@ use Rattle.emit_phis.proofs.Steps.{Pairing}
 use Rattle.emit_phis.proofs.pairs.put_pairs.Given as goal
 
 abbrev pub invariant-loop-edge : goal.invariant-loop-edge
-invariant-loop-edge l = Pairing (func_of l.func) l.first l.i l.j l.work l.initial.out l.out (edge_word l.edge)
+invariant-loop-edge l = Pairing (func_of l.e.func.now) l.e.first l.i l.j l.e.work.now l.initial.out l.out (edge_word l.edge)
 
 abbrev pub decreases-loop-edge : goal.decreases-loop-edge
 decreases-loop-edge l = edge_word l.edge

@@ -1,10 +1,9 @@
--- Two numbers and the end of the line are read one behind the other, and then they are stored as the line says.
+-- Two numbers and the end of the line are read, and then they are stored as the line says.
 use Rattle.lifting.specs.Grammar.{two}
 use Rattle.func.specs.Kinds.{decl_from}
 use Rattle.read_lines.specs.Stores.{up_reached, stored_one}
 use Rattle.read_lines.specs.Tails.{ended_by}
-use Rattle.read_lines.specs.Laws.{ended_reached}
 use Rattle.read_heads.proofs.heads.param_line.Goals as goal
 
 pub returns-clause-stores : goal.returns-clause-stores
-returns-clause-stores c = stored_one (up_reached (ended_by two).read (λ x. decl_from x.0 x.1) (ended_reached two c.in_ok-m.ensures c.in_ok-d.ensures)) c.keep_param.ensures.func_after
+returns-clause-stores c = stored_one (up_reached (ended_by two).read (λ x. decl_from x.0 x.1) c.in_ok-attrs.ensures) c.keep_pair.ensures.func_after

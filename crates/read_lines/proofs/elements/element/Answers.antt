@@ -22,7 +22,7 @@ pub returns-in-Some-clause-stores : goal.returns-in-Some-clause-stores
 returns-in-Some-clause-stores c = element_stored c.in-Value.is (stored_one c.in-Some.ensures c.keep_value.ensures.func_after)
 
 pub returns-in_ok-attrs-in-Decl-clause-stores : goal.returns-in_ok-attrs-in-Decl-clause-stores
-returns-in_ok-attrs-in-Decl-clause-stores c = element_stored c.in-Decl.is (stored_one c.in_ok-attrs-in-Decl.ensures c.keep_decl.ensures.func_after)
+returns-in_ok-attrs-in-Decl-clause-stores c = element_stored c.in-Decl.is (stored_one c.in_ok-attrs-in-Decl.ensures c.keep_pair.ensures.func_after)
 
 pub returns-in_ok-kind-in-Imm-clause-stores : goal.returns-in_ok-kind-in-Imm-clause-stores
 returns-in_ok-kind-in-Imm-clause-stores c = element_stored c.in-Imm.is (stored_one c.in_ok-kind-in-Imm.ensures c.keep_imm.ensures.func_after)

@@ -4,4 +4,4 @@ use Rattle.walk_roots.specs.Tables.{line_is}
 use Rattle.walk_roots.proofs.tables.ctrl_at.Goals as goal
 
 pub returns : goal.returns
-returns c = line_is c.requires.indexed c.args.r c.requires.r_bound.0 refl c.checked_sub.result c.checked_sub.ensures
+returns c F k = line_is k c.args.r c.requires.0 refl c.checked_sub.result c.checked_sub.ensures

@@ -1,0 +1,2 @@
+-- The pools of the code by number.
+pub mod Pools

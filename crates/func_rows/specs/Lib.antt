@@ -1,0 +1,2 @@
+-- Which word of a row is asked for.
+pub mod Columns

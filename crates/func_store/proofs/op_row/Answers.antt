@@ -1,8 +1,0 @@
--- The cells of the row are the numbers that were given, those of the kind, and for each list the run of its pool since the mark.
-use Rattle.func.specs.Rows.{op_row}
-use borrow.Author.Rules.{rules}
-use Rattle.func_store.proofs.op_row.Goals as goal
-
-pub returns : goal.returns
-unfolding op_row
-returns c = record { func_after = cc; func_len_unchanged = search rules }
