@@ -23,7 +23,7 @@ use Rattle.lifting.specs.Counts.{is_exit, ends_in_exit, outs_fit, node_fits, edg
 use Rattle.func.specs.Layout.{params, decls, values, node_refs, child_refs, regions, nodes, ctrls, entry_room}
 use Rattle.func.specs.Store.{count, view}
 use Rattle.func.specs.declared.NodeKind.TheVariants.{Loop}
-use Rattle.func.specs.Keep.{one_word}
+use Rattle.func.specs.Keep.{one_word, node_number}
 use Rattle.func.specs.Kinds.{node_kind, node_kind_from, node_kind_law}
 use Rattle.func.specs.Decode.{decode_number}
 use Rattle.func.specs.Whole.{collections, sizes}
@@ -34,7 +34,7 @@ use Rattle.func.proofs.Stored.{stored_nodes, ins_count, results_count, stored_ki
 use Rattle.general_laws.specs.Tests.{every_all, both}
 use Rattle.general_laws.specs.Fewer.{fewer_below, fits}
 use Rattle.check_counts.specs.Numbered.{every_numbered}
-use Rattle.check_counts.specs.Test.{ins_in, results_in, value_count_in, child_count_in, outs_in, child_in, node_in, kind_in, exit_kind, ends_at, ends_test, case_test, body_test, cases_test, node_kind_test, node_test, nodes_test, results_test, func_test, counts_test, CountsSafe}
+use Rattle.check_counts.specs.Test.{ins_in, results_in, value_count_in, child_count_in, outs_in, child_in, node_in, kind_in, ends_at, ends_test, case_test, body_test, cases_test, node_kind_test, node_test, nodes_test, results_test, func_test, counts_test, CountsSafe}
 
 -- What the earlier refusals say.
 record Few (F : Func) : Type 0 where
@@ -93,13 +93,13 @@ loop_body (select (spv_inst i) v cs ds u) e = cc
 loop_body (loop b c vs u) e = omega arith
 loop_body (exit i vs) e = cc
 
--- an exit by its kind
-exit_is : (g : Node) → exit_kind (node_kind g) ≡ is_exit g
-exit_is (block is) = refl
-exit_is (select bool_cond v cs ds u) = refl
-exit_is (select (spv_inst i) v cs ds u) = refl
-exit_is (loop b c vs u) = refl
-exit_is (exit i vs) = refl
+-- an exit's number is 4
+exit_number : (g : Node) → eqb (node_number g) 4 ≡ is_exit g
+exit_number (block is) = refl
+exit_number (select bool_cond v cs ds u) = refl
+exit_number (select (spv_inst i) v cs ds u) = refl
+exit_number (loop b c vs u) = refl
+exit_number (exit i vs) = refl
 
 -- the last of k + 1 nodes
 ends_some : (F : Func) (k : ℕ) (l : List ℕ) → length l ≡ suc k → is_exit (node_of F (get_or l k 0)) ≡ ends_in_exit F l
@@ -217,7 +217,7 @@ module _ (F : Func) (w : List ℕ) (s : Stored F w) (l : within_limits F ≡ tru
       by_length_law (suc k) e =
           let here : node_in w c k ≡ get_or ns k 0 = ap (λ (z : List ℕ). get_or z 0 0) (item_is (nodes_of c m) k (omega arith) 0 {at = word regions w c 1 / 4096 + k} refl) in
           let below : get_or ns k 0 < length F.nodes = ltb-true _ _ (every_at (λ x. ltb x (length F.nodes)) ns low k 0 (omega arith)) in
-          ap (λ (x : ℕ). exit_kind (kind_in w x)) here ∙ ap exit_kind (kind_is (get_or ns k 0) below) ∙ exit_is (node_of F (get_or ns k 0)) ∙ ends_some F k ns e
+          ap (λ (x : ℕ). eqb (word nodes w x 0) 4) here ∙ ap (λ (x : ℕ). eqb x 4) (stored_kind s node_room (get_or ns k 0) below) ∙ exit_number (node_of F (get_or ns k 0)) ∙ ends_some F k ns e
 
   -- what the row of node n says, where the node is g
   record Row (n : ℕ) (g : Node) : Type 0 where

@@ -41,17 +41,10 @@ node_in w r i = word node_refs w (word regions w r 1 / 4096 + i) 0
 abbrev pub kind_in : List ℕ → ℕ → NodeKind
 kind_in w n = node_kind_from (word nodes w n 0)
 
--- the last of region r's m nodes is an exit
-abbrev pub exit_kind : NodeKind → Bool
-exit_kind Block = false
-exit_kind SelectBool = false
-exit_kind SelectInst = false
-exit_kind Loop = false
-exit_kind Exit = true
-
+-- the last of region r's m nodes is an exit, whose kind's number is 4; no other number is an exit's
 abbrev pub ends_at : List ℕ → ℕ → ℕ → Bool
 ends_at w r zero = false
-ends_at w r (suc k) = exit_kind (kind_in w (node_in w r k))
+ends_at w r (suc k) = eqb (word nodes w (node_in w r k) 0) 4
 
 abbrev pub ends_test : List ℕ → ℕ → Bool
 ends_test w r = ends_at w r (node_count_in w r)

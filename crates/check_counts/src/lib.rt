@@ -9,7 +9,7 @@ ghost use Rattle.check_counts.specs.Test.{child_count_in, child_in, kind_in, end
 
 use func::NodeKind;
 use func_pools::{Pool, count};
-use func_rows::{RowList, row_count, row_element, row_kind};
+use func_rows::{Column, RowList, row_count, row_element, row_kind, row_word};
 
 // The slice of such a text.
 #[derive(Clone, Copy)]
@@ -19,7 +19,7 @@ struct Counted<'a> {
 }
 
 impl<'a> Counted<'a> {
-    // The last node of region c is an exit.
+    // The last node of region c is an exit, by the number of its kind: a row of no text may hold one above the last kind's, which is no exit's.
     fn ends_in_exit(&self, c: usize) -> bool
         requires { c < count regions self.now.words.now }
         ensures { result ≡ ends_test self.now.words.now c }
@@ -29,7 +29,7 @@ impl<'a> Counted<'a> {
             return false;
         }
         let n = row_element(self.words, RowList::RegionNodes, c, m - 1);
-        row_kind(self.words, n) == NodeKind::Exit
+        row_word(self.words, Column::NodeKind, n) == u32::from(NodeKind::Exit)
     }
 
     // Case i of select n has no inputs, and as many outputs as the node, or none where its last node is an exit.

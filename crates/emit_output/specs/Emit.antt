@@ -1,6 +1,6 @@
 -- The answer of a function in its tables, by document 01's numbers. Assumes nothing.
 --     told, outcome                 what is told: the word count and the next free id, or a refusal's number
---     Wants, wants_not              what refusal 11 tells, and no other
+--     Wants, wants_other, wants_not    what refusal 11 tells, and no other
 --     Gives                         what is told and what stands in the output slice, by an answer
 --     by_ids, by_values, by_room, by_list    refusals 9 to 11 and the list
 use Rattle.std.specs.Prelude.{◌≡◌, true, false, List, ℕ, eqb, leb, length, Result, Ok, Err}
@@ -37,6 +37,10 @@ outcome (refused n) = refuses n
 abbrev pub Wants : ℕ → Result Lifted Unlifted → Type 0
 Wants k (Ok l) = Unit {0}
 Wants k (Err e) = refusal_number e.refusal ≡ refusal_number Output → e.wanted ≡ k
+
+-- whatever number it tells
+pub wants_other : (e : Unlifted) (k : ℕ) → eqb (refusal_number e.refusal) (refusal_number Output) ≡ false → Wants k (Err e)
+wants_other e k other z = absurd (eqb-false (refusal_number e.refusal) (refusal_number Output) other z)
 
 pub wants_not : (r : Refusal) (k : ℕ) {e : Unlifted} → e ≡ no_list r → eqb (refusal_number r) (refusal_number Output) ≡ false → Wants k (Err e)
 wants_not r k is other z = absurd (eqb-false (refusal_number r) (refusal_number Output) other (sym (ap (λ (x : Unlifted). refusal_number x.refusal) is) ∙ z))

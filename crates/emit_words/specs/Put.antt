@@ -5,11 +5,13 @@
 --     put_id                   an id is the word, and whether it is 0
 --     put_more                 one run of items after another
 --     put_same, put_length, put_low     the same items; the slice keeps its length; the next place is no higher than the last one
-use Rattle.std.specs.Prelude.{◌≡◌, refl, Bool, true, false, ◌||◌, List, [], ◌∷◌, ◌++◌, ℕ, zero, suc, ◌+◌, ◌≤◌, length, set}
-use Rattle.std.proofs.Common.{sym, ap, ap₂, subst, ◌∙◌, arith, length-append}
+--     Loop, loop_start, loop_turn, loop_end    a loop that appends a run of items a turn
+use Rattle.std.specs.Prelude.{◌≡◌, refl, Bool, true, false, ◌||◌, List, [], ◌∷◌, ◌++◌, ℕ, zero, suc, ◌+◌, ◌≤◌, ◌<◌, length, set}
+use Rattle.std.proofs.Common.{sym, ap, ap₂, subst, ◌∙◌, add-one, arith, length-append}
 use Rattle.std.proofs.lemmas.List.Edits.{sets}
 use Rattle.std.proofs.Math.Seq.{length-sets}
 use Rattle.general_laws.specs.Part.{last_place, sat, sets_sat}
+use Rattle.lifting_blocks.specs.Flat.{up_to}
 use Rattle.emit_words.specs.declared.Cursor.{Cursor}
 
 pub data Item : Type 0 where
@@ -123,3 +125,20 @@ put_low p = omega (arith, p.next)
 
 pub put_same : {w u : List ℕ} {c d : Cursor} {k l : List Item} → Put w c k u d → k ≡ l → Put w c l u d
 put_same {w} {u} {c} {d} p e = subst (λ (x : List Item). Put w c x u d) e p
+
+-- a loop that appends g k in turn k of n, where k turns were made; specs/Writes has the same of a writer
+pub record Loop (g : ℕ → List Item) (n : ℕ) (w : List ℕ) (c : Cursor) (k : ℕ) (out : List ℕ) (d : Cursor) : Type 0 where
+  pub within : k ≤ n
+  pub put : Put w c (up_to g k) out d
+
+pub loop_start : (g : ℕ → List Item) (n : ℕ) {w : List ℕ} {c : Cursor} → length w ≤ last_place → c.at ≤ last_place → Loop g n w c 0 w c
+unfolding up_to
+loop_start g n h k = record { within = omega arith; put = put_none h k }
+
+pub loop_turn : {g : ℕ → List Item} {n : ℕ} {w u v : List ℕ} {c d e : Cursor} {k : ℕ} → Loop g n w c k u d → k < n → Put u d (g k) v e → Loop g n w c (k + 1) v e
+unfolding up_to
+loop_turn {g} {w = w} {v = v} {c} {e = e} {k} p h q =
+    record { within = omega arith; put = subst (λ (j : ℕ). Put w c (up_to g j) v e) (sym (add-one k)) (put_more p.put q) }
+
+pub loop_end : {g : ℕ → List Item} {n : ℕ} {w u : List ℕ} {c d : Cursor} {k : ℕ} → Loop g n w c k u d → n ≤ k → Put w c (up_to g n) u d
+loop_end {g} {n} {w} {u} {c} {d} p h = subst (λ (j : ℕ). Put w c (up_to g j) u d) (omega (arith, p.within)) p.put

@@ -32,15 +32,18 @@ fn store(out: &mut [u32], at: usize, x: u32)
 }
 
 impl Writer<'_> {
-    // Appends a word that is no id. The place stays at the last one.
+    // Appends a word that is no id. The place stays at the last one. It is read once: behind a store into the slice the compiler would read it again.
+    #[inline(always)]
     pub fn put_word(&mut self, x: u32)
         ensures { Writes self.old (word x ∷ []) self.new }
     {
-        store(self.out, self.cursor.at, x);
-        self.cursor.at = self.cursor.at.saturating_add(1);
+        let at = self.cursor.at;
+        store(self.out, at, x);
+        self.cursor.at = at.saturating_add(1);
     }
 
     // Appends an id, or 0, which is what the list writes for none; that an id was missing is remembered.
+    #[inline(always)]
     pub fn put_id(&mut self, x: u32)
         ensures { Writes self.old (id x ∷ []) self.new }
     {

@@ -2,7 +2,7 @@
 use Rattle.std.specs.Prelude.{ℕ}
 use Rattle.func.specs.Layout.{consts, params, decls, values, node_refs, child_refs, regions, nodes, ops}
 use Rattle.func_rows.specs.declared.Column.{Column}
-use Rattle.func_rows.specs.declared.Column.TheVariants.{ConstId, ConstOpcode, ParamType, DeclType, NodeOpcode, NodeControl, OpType}
+use Rattle.func_rows.specs.declared.Column.TheVariants.{ConstId, ConstOpcode, ParamType, DeclType, NodeKind, NodeOpcode, NodeControl, OpType, OpKind}
 use Rattle.func_rows.specs.declared.RowList.{RowList}
 use Rattle.func_rows.specs.declared.RowList.TheVariants.{RegionIns, RegionNodes, RegionResults, NodeValues, NodeChildren, NodeOuts}
 
@@ -11,18 +11,22 @@ column_pool ConstId = consts
 column_pool ConstOpcode = consts
 column_pool ParamType = params
 column_pool DeclType = decls
+column_pool NodeKind = nodes
 column_pool NodeOpcode = nodes
 column_pool NodeControl = nodes
 column_pool OpType = ops
+column_pool OpKind = ops
 
 abbrev pub column_place : Column → ℕ
 column_place ConstId = 0
 column_place ConstOpcode = 1
 column_place ParamType = 1
 column_place DeclType = 1
+column_place NodeKind = 0
 column_place NodeOpcode = 1
 column_place NodeControl = 7
 column_place OpType = 1
+column_place OpKind = 2
 
 abbrev pub list_pool : RowList → ℕ
 list_pool RegionIns = regions

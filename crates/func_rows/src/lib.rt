@@ -11,7 +11,7 @@ ghost use Rattle.func_rows.specs.Columns.{column_pool, column_place, list_pool, 
 use func::{NodeKind, OpKind};
 use func_pools::{Pool, word};
 
-// A word of a row that is one number: an id, a type id, an opcode, a control number. Every row has each word, so that without an INST or a
+// A word of a row that is one number: an id, a type id, a kind's number, an opcode, a control number. Every row has each word, so that without an INST or a
 // merge there is 0 in its place (`node_cells`), and the text itself writes 0 for the type of an op without a result.
 #[derive(Clone, Copy)]
 pub enum Column {
@@ -19,9 +19,11 @@ pub enum Column {
     ConstOpcode,
     ParamType,
     DeclType,
+    NodeKind,
     NodeOpcode,
     NodeControl,
     OpType,
+    OpKind,
 }
 
 // A word of a row that says where a list lies.
@@ -75,9 +77,11 @@ pub fn row_word(func: &[u32], column: Column, i: usize) -> u32
         Column::ConstOpcode => word(func, Pool::Consts, i, 1),
         Column::ParamType => word(func, Pool::Params, i, 1),
         Column::DeclType => word(func, Pool::Decls, i, 1),
+        Column::NodeKind => word(func, Pool::Nodes, i, 0),
         Column::NodeOpcode => word(func, Pool::Nodes, i, 1),
         Column::NodeControl => word(func, Pool::Nodes, i, 7),
         Column::OpType => word(func, Pool::Ops, i, 1),
+        Column::OpKind => word(func, Pool::Ops, i, 2),
     }
 }
 

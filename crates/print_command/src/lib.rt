@@ -1,10 +1,11 @@
 // What each command prints for an input, and what is printed for a stored case.
 #![tactic(auto)]
 
-ghost use Rattle.std.specs.Prelude.{◌++◌, IfSome, OnOk, length};
+ghost use Rattle.std.specs.Prelude.{◌≡◌, ◌++◌, ◌≤◌, IfSome, OnOk, length};
 ghost use Rattle.std.specs.Io.KnownBytes.{Appends};
 ghost use Rattle.lifting.specs.Bytes.{bytes};
 ghost use Rattle.print_bytes.specs.Put.{PutBytes};
+ghost use Rattle.print_room.specs.Most.{max_case};
 ghost use Rattle.print_command.specs.Printed.{case_bytes, command_bytes, printed_for};
 
 use command::Command;
@@ -80,13 +81,22 @@ pub fn print<W: Write>(writer: &mut W, command: Command, input: &[u8]) -> io::Re
     writer.write_all(&out[..n])
 }
 
-// Prints what is printed for a stored case.
+// Prints what is printed for a stored case, through a buffer that is lent: made anew for each case, it would be cleared each time.
+pub fn print_case_by<W: Write>(writer: &mut W, out: &mut [u8], case: &[u8]) -> io::Result<()>
+    requires { max_case ≤ length out.old }
+    ensures printed { OnOk result (Appends (W.contents writer.old) (W.contents writer.new) (case_bytes case.now ++ bytes "%%\n")) }
+    ensures out_len_unchanged { length out.new ≡ length out.old }
+{
+    let n = put_case(out, case);
+    writer.write_all(&out[..n])
+}
+
+// Prints it through a buffer of its own.
 pub fn print_case<W: Write>(writer: &mut W, case: &[u8]) -> io::Result<()>
     ensures printed { OnOk result (Appends (W.contents writer.old) (W.contents writer.new) (case_bytes case.now ++ bytes "%%\n")) }
 {
     let mut out = [0u8; ROOM];
-    let n = put_case(&mut out, case);
-    writer.write_all(&out[..n])
+    print_case_by(writer, &mut out, case)
 }
 
 // Reads an input as far as it decides, and prints what a command prints for all of it.

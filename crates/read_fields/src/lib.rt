@@ -49,7 +49,8 @@ pub fn opened(from: Cursor<'_>) -> Option<(u32, Cursor<'_>)>
     from.open()?.number()
 }
 
-// Two numbers, each after a space.
+// Two numbers, each after a space. Inlined, since a call hands its answer over in memory, all of it where there is none too.
+#[inline(always)]
 pub fn pair(from: Cursor<'_>) -> Option<((u32, u32), Cursor<'_>)>
     ensures { ReadsOn (seq field field).read from.entry result }
 {

@@ -8,6 +8,7 @@ use read_cursor::Cursor;
 use read_fields::{field, one, pair, two};
 
 // ` (inst OP`.
+#[inline(always)]
 #[tactic(auto, using(read_cursor::specs::Chains::chains), unfolding(crate::specs::Heads::inst_head))]
 pub fn inst(from: Cursor<'_>) -> Option<(u32, Cursor<'_>)>
     ensures { ReadsOn inst_head.read from.entry result }

@@ -18,7 +18,7 @@ use Rattle.func.specs.declared.OpKind.TheVariants as op
 use Rattle.func.specs.Store.{folds}
 use Rattle.func.specs.Keep.{inst_imms, keep_head, keep_decl, keep_value, keep_imm, keep_node_ref, keep_op_ref, keep_child, keep_region, keep_node, keep_op}
 use Rattle.func.specs.Rows.{marks_of, region_row, node_row, op_row, keep_region_is, keep_node_is, keep_op_is}
-use Rattle.read_lines.specs.Stores.{Stored, up_back, up_reached, waits_reached}
+use Rattle.read_lines.specs.Stores.{Stored, up_back, up_reached, waits_row}
 use Rattle.read_lines.specs.Tails.{to_region, control, controlled, to_loop, to_exit, ended_by, inst_values, select_lists, to_select, to_select_inst, select_rest, op_of_tail, to_op_inst, op_rest}
 
 abbrev pub keep_func_line : ℕ × (ℕ × (ℕ × ℕ)) → List ℕ → List ℕ
@@ -88,20 +88,9 @@ select_inst w n is x = ap (λ (is : List Imm). keep_select_lists x (folds keep_i
 
 pub rest_row : (k : Selection) {c d e : Cursor} {n : ℕ} {w u v : List ℕ} → Stored (select_rest k) keep_node_lists c d w u → Reached control.read d n e
     → v ≡ node_row (marks_of w) (select_number k) (select_opcode k) n u → Stored (λ t. controlled (select_rest k t)) keep_node c e w v
-rest_row sel.Bool {n = n} {w = w} s t q =
-    let x = up_back select_lists.read (to_select bool_cond) s.reached in
-    record {
-      value = to_select bool_cond x.0 n;
-      reached = waits_reached control (select_rest sel.Bool) (up_reached select_lists.read (to_select bool_cond) x.2) t;
-      kept = q ∙ ap (node_row (marks_of w) 1 0 n) (s.kept ∙ ap (λ (g : ℕ → Node). keep_node_lists g w) x.1) ∙ sym (keep_node_is (to_select bool_cond x.0 n) w);
-    }
+rest_row sel.Bool {n = n} {w = w} s t q = waits_row select_lists.read (to_select bool_cond) control (node_row (marks_of w) 1 0) (λ x. keep_node_is (to_select bool_cond x n) w) s t q
 rest_row (sel.Inst m) {n = n} {w = w} s t q =
-    let x = up_back (seq imms_codec select_lists).read (to_select_inst m) s.reached in
-    record {
-      value = to_select_inst m x.0 n;
-      reached = waits_reached control (select_rest (sel.Inst m)) (up_reached (seq imms_codec select_lists).read (to_select_inst m) x.2) t;
-      kept = q ∙ ap (node_row (marks_of w) 2 m n) (s.kept ∙ ap (λ (g : ℕ → Node). keep_node_lists g w) x.1) ∙ sym (keep_node_is (to_select_inst m x.0 n) w);
-    }
+    waits_row (seq imms_codec select_lists).read (to_select_inst m) control (node_row (marks_of w) 2 m) (λ x. keep_node_is (to_select_inst m x n) w) s t q
 
 -- the row of an op goes by its head
 pub op_inst_law : (w : List ℕ) (a t n : ℕ) (x : List Imm × List Value) → keep_op_lists (to_op_inst a t n x) w ≡ keep_inst_values x w

@@ -114,6 +114,18 @@ module _ {A B : Type 0} (D : Codec B) (read : List ℕ → Reading (B → A)) wh
     pub waits_reached : {b : B} {e : Cursor} → Reached D.read d b e → Reached (λ t. waits D (read t)) c (g b) e
     waits_reached q = head_reached read (λ g r. then (D.read r) (up g)) p (up_reached D.read g q)
 
+-- and then the row of both is stored
+pub waits_row : {A B X S : Type 0} (read : List ℕ → Reading X) (f : X → B → A) (D : Codec B) {k : A → S → S} {l : (B → A) → S → S} {c d e : Cursor} {b : B} {w u v : S}
+    (row : B → S → S) → ((x : X) → k (f x b) w ≡ row b (l (f x) w)) → Stored (λ t. then (read t) (up f)) l c d w u → Reached D.read d b e → v ≡ row b u
+    → Stored (λ t. waits D (then (read t) (up f))) k c e w v
+waits_row {A} {B} read f D {l = l} {b = b} {w = w} row is s t q =
+    let x = up_back read f s.reached in
+    record {
+      value = f x.0 b;
+      reached = waits_reached D (λ t. then (read t) (up f)) (up_reached read f x.2) t;
+      kept = q ∙ ap (row b) (s.kept ∙ ap (λ (g : B → A). l g w) x.1) ∙ sym (is x.0);
+    }
+
 -- one after the other, both stored
 module _ {A B S : Type 0} (C : Codec A) (D : Codec B) where
   pub stored_both : {f : A → S → S} (g : B → S → S) {c d e : Cursor} {w u v : S} → Stored C.read f c d w u → Stored D.read g d e u v → Stored (seq C D).read (λ x z. g x.1 (f x.0 z)) c e w v

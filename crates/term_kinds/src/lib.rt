@@ -84,7 +84,8 @@ impl Visits<'_> {
         }
     }
 
-    // The way out of the i-th visited point.
+    // The way out of the i-th visited point. Inlined, since it would be handed over in memory.
+    #[inline(always)]
     pub fn term_kind(&self, i: usize) -> TermKind
         requires { i < self.now.count }
         ensures { TermIs (func_of self.now.func.now) (visited_block (func_of self.now.func.now) i).term result }

@@ -9,7 +9,8 @@ loop-init g c =
     record {
       counts = record { len = omega arith; from = omega arith; till = omega arith };
       text_length = refl;
-      buffer_length = c.requires;
+      buffer_length = c.requires.0;
+      out_length = c.requires.1;
       running = λ all room given.
           running_start _ _ all c.args.buffer.now c.args.text.now c.start-state.result given len matched from till c.start-state.ensures.more;
     }
@@ -21,6 +22,7 @@ loop-preserved g c =
       counts = c.in_ok-state.ensures.state;
       text_length = c.in_ok-state.ensures.rooms.0 ∙ c.loop.invariant.text_length;
       buffer_length = c.in_ok-state.ensures.rooms.1;
+      out_length = omega (arith, c.in_ok-state.ensures.rooms.2, c.loop.invariant.out_length);
       running = λ all room given.
           let so_far = c.loop.invariant.running all room given in
           subst
