@@ -1,7 +1,6 @@
 -- What a printer appends: bytes, over the one slice that it was made with. Assumes nothing.
 --     Prints                           bytes appended
 --     prints_none, prints_one          no byte, and one
---     prints_put                       what is put into the slice at the place
 --     prints_more, prints_same         one run of bytes after another; the same bytes, written otherwise
 --     prints_end                       what the caller of a printer finds in the slice
 --     Printing                         of some bytes a first part is appended, and these are left
@@ -28,9 +27,6 @@ prints_none h = record { same = refl; put = λ k. put_bytes_none h k }
 pub prints_one : {w r : Printer} (b : ℕ) → length w.out.now ≤ last_place → r.out.ghost_name ≡ w.out.ghost_name → r.out.now ≡ set w.out.now w.at b
     → r.at ≡ sat (w.at + 1) → Prints w (b ∷ []) r
 prints_one b h s e n = record { same = s; put = λ k. put_bytes_one b h e n }
-
-pub prints_put : {w r : Printer} {l : List ℕ} → r.out.ghost_name ≡ w.out.ghost_name → PutBytes w.out.now w.at l r.out.now r.at → Prints w l r
-prints_put s p = record { same = s; put = λ k. p }
 
 pub prints_more : {a b c : Printer} {k l : List ℕ} → Prints a k b → Prints b l c → Prints a (k ++ l) c
 prints_more p q = record { same = q.same ∙ p.same; put = λ h. put_bytes_more (p.put h) (q.put (next_low (p.put h))) }

@@ -2,9 +2,8 @@
 // whatever room there is.
 #![tactic(auto)]
 
-ghost use Rattle.std.specs.Prelude.{◌≡◌, [], ◌∷◌, set};
+ghost use Rattle.std.specs.Prelude.{[], ◌∷◌};
 ghost use Rattle.lifting.specs.Digits.{digits};
-ghost use Rattle.print_bytes.specs.Put.{PutBytes};
 ghost use Rattle.print_bytes.specs.Prints.{Prints};
 ghost use Rattle.print_bytes.specs.Lines.{field_bytes};
 
@@ -15,69 +14,42 @@ pub struct Printer<'a> {
     pub at: usize,
 }
 
-// Stores a byte where there is room.
-fn store(out: &mut [u8], at: usize, b: u8)
-    ensures { out.new ≡ set out.old at b }
-{
-    if at < out.len() {
-        out[at] = b;
-    }
-}
-
-// A byte: the next place, which stays at the last one. Here a place goes by value: that of a lent printer the compiler would read again behind each
-// byte that is stored.
-fn put_byte_at(out: &mut [u8], at: usize, b: u8) -> usize
-    ensures { PutBytes out.old at (b ∷ []) out.new result }
-{
-    store(out, at, b);
-    at.saturating_add(1)
-}
-
-fn put_bytes_at(out: &mut [u8], at: usize, s: &[u8]) -> usize
-    ensures { PutBytes out.old at s.now out.new result }
-{
-    let mut next = at;
-    for b in s {
-        next = put_byte_at(out, next, *b);
-    }
-    next
-}
-
-// A number in base ten: the digits of its tenth, and its last one.
-fn put_number_at(out: &mut [u8], at: usize, n: u32) -> usize
-    ensures { PutBytes out.old at (digits n) out.new result }
-{
-    if n < 10 {
-        return put_byte_at(out, at, (48 + n) as u8);
-    }
-    let next = put_number_at(out, at, n / 10);
-    put_byte_at(out, next, (48 + n % 10) as u8)
-}
-
 impl Printer<'_> {
+    // A byte, stored where there is room. The place stays at the last one. It is read once: behind a store into the slice the compiler would read it again.
+    #[inline(always)]
     pub fn put_byte(&mut self, b: u8)
         ensures { Prints self.old (b ∷ []) self.new }
     {
-        self.at = put_byte_at(self.out, self.at, b);
+        let at = self.at;
+        if at < self.out.len() {
+            self.out[at] = b;
+        }
+        self.at = at.saturating_add(1);
     }
 
     pub fn put_bytes(&mut self, s: &[u8])
         ensures { Prints self.old s.now self.new }
     {
-        self.at = put_bytes_at(self.out, self.at, s);
+        for b in s {
+            self.put_byte(*b);
+        }
     }
 
+    // A number in base ten: the digits of its tenth, and its last one.
     pub fn put_number(&mut self, n: u32)
         ensures { Prints self.old (digits n) self.new }
     {
-        self.at = put_number_at(self.out, self.at, n);
+        if n >= 10 {
+            self.put_number(n / 10);
+        }
+        self.put_byte((48 + n % 10) as u8);
     }
 
     // A number after a space.
     pub fn put_field(&mut self, n: u32)
         ensures { Prints self.old (field_bytes n) self.new }
     {
-        let next = put_byte_at(self.out, self.at, b' ');
-        self.at = put_number_at(self.out, next, n);
+        self.put_byte(b' ');
+        self.put_number(n);
     }
 }

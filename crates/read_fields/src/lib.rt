@@ -65,7 +65,8 @@ pub fn one(from: Cursor<'_>) -> Option<(u32, Cursor<'_>)>
     closed(field(from))
 }
 
-// ` N N)`.
+// ` N N)`. Inlined, as `pair` is.
+#[inline(always)]
 #[tactic(auto, using(crate::specs::Joins::closes_reads), unfolding(lifting::specs::Grammar::two))]
 pub fn two(from: Cursor<'_>) -> Option<((u32, u32), Cursor<'_>)>
     ensures { ReadsOn two.read from.entry result }

@@ -12,8 +12,7 @@ use read_cursor::Cursor;
 use read_fields::{decl, field, imm};
 use read_values::value;
 
-// One element. Inlined: in a list the kind is known.
-#[inline(always)]
+// One element.
 pub fn element<'a>(func: &mut [u32], what: Element, from: Cursor<'a>) -> Option<Cursor<'a>>
     requires { (func_need ≤ length func.old) × PoolPlaced what }
     ensures stores { Stores (element_of what).read (keep_element what) from.entry result func.old func.new }

@@ -3,8 +3,9 @@
 
 ghost use Rattle.std.specs.Prelude.{◌≡◌};
 ghost use Rattle.lifting.specs.Whole.{read_whole};
-ghost use Rattle.lifting.specs.Grammar.{value_codec};
-ghost use Rattle.read_cursor.specs.Answers.{ReadsAs};
+ghost use Rattle.lifting.specs.Codec.{seq};
+ghost use Rattle.lifting.specs.Grammar.{field, value_codec};
+ghost use Rattle.read_cursor.specs.Answers.{ReadsAs, ReadsOn};
 ghost use Rattle.func.specs.Kinds.{as_value};
 ghost use Rattle.read_values.specs.Answers.{form_of, part_answer};
 ghost use Rattle.read_values.specs.Part.{value_parts, value_part};
@@ -14,6 +15,14 @@ use read_cursor::Cursor;
 use read_fields::{field, pair};
 use read_forms::form;
 
+// Two numbers behind a word. Not inlined, so that `and_then` is, and calls nothing where the word is another.
+#[inline(never)]
+fn numbers(from: Cursor<'_>) -> Option<((u32, u32), Cursor<'_>)>
+    ensures { ReadsOn (seq field field).read from.entry result }
+{
+    pair(from)
+}
+
 // What stands between a value's brackets: `c N`, `r R I`, `n N I` or `d I`.
 #[tactic(auto, using(read_cursor::specs::Chains::choices), unfolding(crate::specs::Part::value_parts))]
 fn words(from: Cursor<'_>) -> Option<(Val, Cursor<'_>)>
@@ -22,10 +31,10 @@ fn words(from: Cursor<'_>) -> Option<(Val, Cursor<'_>)>
     if let Some((n, c)) = from.word(b"c").and_then(field) {
         return Some((Val::Const(n), c));
     }
-    if let Some(((m, n), c)) = from.word(b"r").and_then(pair) {
+    if let Some(((m, n), c)) = from.word(b"r").and_then(numbers) {
         return Some((Val::Input(m, n), c));
     }
-    if let Some(((m, n), c)) = from.word(b"n").and_then(pair) {
+    if let Some(((m, n), c)) = from.word(b"n").and_then(numbers) {
         return Some((Val::Output(m, n), c));
     }
     let (n, c) = field(from.word(b"d")?)?;

@@ -1,0 +1,5 @@
+-- The number falls at each call.
+use Rattle.print_bytes.proofs.Printer.+put_number.Given as goal
+
+abbrev pub decreases-put_number : goal.decreases-put_number
+decreases-put_number l = l.n
