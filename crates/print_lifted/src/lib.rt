@@ -24,7 +24,8 @@ fn put_lifted(bytes: &mut [u8], r: Result<Lifted, Unlifted>, out: &[u32]) -> usi
     }
 }
 
-// The text behind the first line.
+// The text behind the first line. Not inlined, so that an input without that line takes none of this stack.
+#[inline(never)]
 fn put_text(
     bytes: &mut [u8],
     text: &[u8],
